@@ -14,6 +14,70 @@ def listed(count, *made):
     return [["createElement", 0, "r"], *[made] * (2 * count), *[["appendChild", 1, it] for it in range(2, count + 2)]]
 
 
+def leaves_under(parent, count):
+    """As many elements, with the numbers behind the parent's, that came in under it one by one."""
+    return [*[["createElement", 0, "e"]] * count, *[["appendChild", parent, it] for it in range(parent + 1, parent + count + 1)]]
+
+
+def of_a_fragment(count):
+    """Lines that make a list that came of a fragment; its parent, and its first child."""
+    return [["createElement", 0, "r"], ["createFragment", 0], *leaves_under(2, count), ["appendChild", 1, 2]], 1, 3
+
+
+def of_replaced(count):
+    return [["createElement", 0, "r"], ["createFragment", 0], *leaves_under(2, count), ["replaceChildren", 1, 2]], 1, 3
+
+
+def of_a_clone(count):
+    return [["createElement", 0, "r"], *leaves_under(1, count), ["cloneNode", 1, True]], count + 2, count + 3
+
+
+def of_an_import(count):
+    return [["createElement", 0, "r"], *leaves_under(1, count), ["importNode", 0, 1, True]], count + 2, count + 3
+
+
+def of_extracted(count):
+    extracted = [["createRange", 0], ["selectNodeContents", 0, 1], ["extractContents", 0]]
+    return [["createElement", 0, "r"], *leaves_under(1, count), *extracted], count + 2, 2
+
+
+def asked_once_the_first_went(came):
+    """Each first child of a list that came at once goes, and each time something is asked in its midst."""
+
+    def scene(count):
+        making, parent, first = came(2 * count)
+        middle = first + count + count // 2
+        making += [["createRange", 0], ["setEndAfter", 0, middle + 1]]
+        asked = ["index", middle], ["setStartBefore", 0, middle], ["comparePosition", middle, middle + count // 4], ["comparePoint", 0, parent, count // 2]
+        return making, [line for at in range(count) for line in (["remove", first + at], asked[at % 4])]
+
+    return scene
+
+
+def gone_from_what_came_at_once(count):
+    """Children go at the front and in the midst in turn, beside one end, of a list that came of a fragment."""
+    making, _, first = of_a_fragment(count)
+    half = count // 2
+    lines = [["remove", it] for pair in zip(range(first, first + half // 2), range(first + half, first + half + half // 2)) for it in pair]
+    return making + ranged(0, half, half), lines
+
+
+def board(count):
+    """A child goes from the front of one list to that of the other, both of which came of a fragment, and an index in the midst of both is asked."""
+    making = [["createElement", 0, "r"]] * 2 + [["createFragment", 0]]
+    columns = [range(4 + at * 2 * count, 4 + (at + 1) * 2 * count) for at in range(2)]
+    for parent, column in enumerate(columns, 1):
+        making += [["createElement", 0, "e"]] * len(column) + [["appendChild", 3, it] for it in column] + [["appendChild", parent, 3]]
+    left, right = columns
+    fronts = [right[0], *left]
+    return making, [line for it, front in zip(left[:count], fronts) for line in (["insertBefore", 2, it, front], ["index", left[3 * count // 2]], ["index", right[count]])]
+
+
+def one_cursor(count):
+    """Children come in before one in the midst, and the index of each is asked."""
+    return listed(count), [line for it in free(count) for line in (["insertBefore", 1, it, 2 + count // 2], ["index", it])]
+
+
 def free(count):
     """The numbers of those that have no parent yet."""
     return range(count + 2, 2 * count + 2)
@@ -137,6 +201,14 @@ MIDST_SCENES = (
     ("removals at the front and in the midst in turn, beside an end", gone_in_turn, 512),
     ("insertions at the front and in the midst in turn, beside an end", come_in_turn, 2048),
     ("index in the midst, behind insertions at the front", index_behind_the_front, 256),
+    ("questions in the midst of a list that came of a fragment, as its first children go", asked_once_the_first_went(of_a_fragment), 512),
+    ("the same of a clone", asked_once_the_first_went(of_a_clone), 512),
+    ("the same of an import", asked_once_the_first_went(of_an_import), 512),
+    ("the same of what was extracted", asked_once_the_first_went(of_extracted), 512),
+    ("the same of what replaced all", asked_once_the_first_went(of_replaced), 512),
+    ("removals beside an end, of a list that came of a fragment", gone_from_what_came_at_once, 1024),
+    ("a board: from one list's front to the other's, and an index in both", board, 512),
+    ("index of each child that comes in before one in the midst", one_cursor, 4096),
     ("index at random places, between moves", at_random(index), 250),
     ("ends set at random places, between moves", at_random(ends), 250),
     ("splitText at random places, between moves", at_random(splits, "createText", 0, "ab"), 250),

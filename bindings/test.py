@@ -21,7 +21,7 @@ REPEATED = {
     "rust/Cargo.toml": r'^version = "(.*)"$',
     "rust/Cargo.lock": r'^name = "huckleport"\nversion = "(.*)"$',
     "javascript/package.json": r'^  "version": "(.*)",$',
-    "../crates/dom_options/src/options.rt": r'^const VERSION: &str = "(.*)";$',
+    "../crates/dom_options/src/options.rt": r'^const VERSION: &str = "(.*) \(.*\)";$',
     "../CHANGELOG.md": r"\A# Changes\n.*?^## (.*?)$",
 }
 

@@ -30,7 +30,7 @@
 extern "C" {
 #endif
 
-/** The call did what it says. */
+/** The call succeeded. */
 #define HP_OK 0
 /** Printed as IndexSizeError. */
 #define HP_INDEX_SIZE_ERROR 1
@@ -54,7 +54,7 @@ extern "C" {
 #define HP_NO_SUCH_OBJECT 33
 /** There is no number left for a new object. */
 #define HP_LIMIT 34
-/** What was to be discarded is still referred to. */
+/** Something still refers to a node that was to be discarded. */
 #define HP_IN_USE 35
 /** Printed as line-too-long. */
 #define HP_LINE_TOO_LONG 36
@@ -64,8 +64,8 @@ extern "C" {
 #define HP_BAD_COMMAND 38
 /** Printed as bad-arguments. */
 #define HP_BAD_ARGUMENTS 39
-/** Memory was wanting, now or at an earlier call: the session has ended. It takes no command, and what it holds can
- * be read. */
+/** Out of memory, now or at an earlier call: the session has ended. It takes no command, and its nodes can still be
+ * read. */
 #define HP_OUT_OF_MEMORY 48
 /** The handle is closed. */
 #define HP_CLOSED 49
@@ -75,37 +75,37 @@ extern "C" {
 #define HP_BAD_LIMITS 51
 /** The bytes of a name are no UTF-8. */
 #define HP_NOT_UTF8 52
-/** Lengths and what they measure do not belong together. */
+/** Lengths do not fit the bytes or units that they measure. */
 #define HP_BAD_LENGTHS 53
 /** A number stands for none of the choices. */
 #define HP_BAD_CHOICE 54
 /** The last answer, or the node, has no such part. */
 #define HP_NOT_THERE 55
-/** The session has ended, since memory was wanting once. The answer is of what it holds. */
+/** The session has ended, as it was out of memory once. The answer is from the world it still holds. */
 #define HP_ENDED 56
 /** The number that stands for null; no object has it. */
 #define HP_NONE ((uint32_t)4294967295u)
-/** The record tells of an attribute. */
+/** The record of an attribute. */
 #define HP_ATTRIBUTES 0
-/** The record tells of data. */
+/** The record of data. */
 #define HP_CHARACTER_DATA 1
-/** The record tells of children. */
+/** The record of children. */
 #define HP_CHILD_LIST 2
 
-/** Bytes that are lent. */
+/** Borrowed bytes. */
 typedef struct hp_bytes {
     const uint8_t *bytes;
     size_t length;
 } hp_bytes;
 
-/** UTF-16 units that are lent. */
+/** Borrowed UTF-16 units. */
 typedef struct hp_text_view {
     const uint16_t *units;
     size_t length;
 } hp_text_view;
 
-/** A row of a tree: how deep the node stands below the one that was asked for, its number, the standard's number of
- * its kind (nodeType), and how many attributes it has. */
+/** A row of a tree: the node's depth below the printed root, its number, the standard's number of its kind
+ * (nodeType), and the number of its attributes. */
 typedef struct hp_row {
     size_t depth;
     uint32_t node;
@@ -113,14 +113,14 @@ typedef struct hp_row {
     size_t attributes;
 } hp_row;
 
-/** What an observer is told: its number, and how many records. */
+/** A notice: the number of the observer, and the number of its records. */
 typedef struct hp_notice {
     uint32_t observer;
     size_t records;
 } hp_notice;
 
-/** A record: its type (HP_ATTRIBUTES, HP_CHARACTER_DATA or HP_CHILD_LIST), its target, how many nodes were added and
- * removed, and the siblings beside them, or HP_NONE. */
+/** A record: its type (HP_ATTRIBUTES, HP_CHARACTER_DATA or HP_CHILD_LIST), its target, the numbers of added and
+ * removed nodes, and the siblings beside them, or HP_NONE. */
 typedef struct hp_record {
     uint8_t type;
     uint32_t target;
@@ -147,7 +147,7 @@ typedef struct hp_static_ends {
     uint8_t is_valid;
 } hp_static_ends;
 
-/** The root and the reference of an iterator, and whether it stands before the reference: 0 or 1. */
+/** The root and the reference of an iterator, and whether its pointer is before the reference: 0 or 1. */
 typedef struct hp_iterator_at {
     uint32_t root;
     uint32_t reference;
@@ -160,7 +160,7 @@ typedef struct hp_walker_at {
     uint32_t current;
 } hp_walker_at;
 
-/** The node document, the kind by the standard's number (nodeType), and the nodes beside and above, or HP_NONE. */
+/** The node document, the kind by the standard's number (nodeType), and the siblings and the parent, or HP_NONE. */
 typedef struct hp_place {
     uint32_t document;
     uint8_t kind;
@@ -169,8 +169,8 @@ typedef struct hp_place {
     uint32_t previous;
 } hp_place;
 
-/** A node: the standard's number of its kind (nodeType), its node document, the nodes above, beside and below it, or
- * HP_NONE, how many children it has, and its length. */
+/** A node: the standard's number of its kind (nodeType), its node document, its parent, siblings and first and last
+ * child, or HP_NONE, the number of its children, and its length. */
 typedef struct hp_node_links {
     uint8_t kind;
     uint32_t document;
@@ -183,8 +183,8 @@ typedef struct hp_node_links {
     size_t length;
 } hp_node_links;
 
-/** How many objects of each kind there are: those that were made, and neither discarded nor released. The
- * registrations are those of all observers, with the transient ones. */
+/** The number of objects of each kind that were made, and neither discarded nor released. The registrations are
+ * those of all observers, with the transient ones. */
 typedef struct hp_counts {
     size_t nodes;
     size_t ranges;
@@ -195,8 +195,8 @@ typedef struct hp_counts {
     size_t registrations;
 } hp_counts;
 
-/** The members of MutationObserverInit: 0 for false, 1 for true, 2 for absent. Of the attribute filter 0 for absent,
- * and 1 for the names that are handed beside. */
+/** The members of MutationObserverInit: 0 for false, 1 for true, 2 for absent. The attribute filter is 0 if absent,
+ * and 1 if its names are passed beside. */
 typedef struct hp_options {
     uint8_t child_list;
     uint8_t attributes;
@@ -207,7 +207,7 @@ typedef struct hp_options {
     uint8_t attribute_filter;
 } hp_options;
 
-/** The owner of what is kept on the heap, or of nothing. All zero bytes are an empty slot. */
+/** The owner of a session's state on the heap, or of nothing. All zero bytes are an empty slot. */
 typedef struct hp_slot {
     uint8_t *at;
 } hp_slot;
@@ -240,23 +240,22 @@ typedef struct hp_session {
 /** @name The version of the library
  * @{ */
 
-/** The version of the library that runs, as a number. A program compares it with HP_VERSION_NUMBER, that of the
- * header it was compiled with.
+/** Returns the version of the running library, as a number. A program compares it with HP_VERSION_NUMBER, that of
+ * the header it was compiled with.
  * @return HP_OK, or why it was refused. */
 uint8_t hp_version(uint32_t *version);
 
 /** @} */
 
-/** @name How a session is opened and closed
+/** @name Opening and closing a session
  * @{ */
 
-/** Opens a session in a closed handle, whose node 0 is a Document. Each kind of object gets so many numbers (1 to
- * 4294967295), and a line may have so many bytes (at least 1).
+/** Opens a session in a closed handle, whose node 0 is a Document. numbers is how many numbers each kind of object
+ * has (1 to 4294967295), and line how many bytes a line may have (at least 1).
  * @return HP_OK, or why it was refused. */
 uint8_t hp_open(hp_session *session, uint64_t numbers, size_t line);
 
-/** Frees the session and all that it keeps. The handle is closed from then on, as it was where it was closed
- * already.
+/** Frees the session and everything that it owns. Afterwards the handle is closed; a closed handle stays so.
  * @return HP_OK, or why it was refused. */
 uint8_t hp_close(hp_session *session);
 
@@ -276,111 +275,111 @@ uint8_t hp_print(hp_session *session);
 
 /** @} */
 
-/** @name What is lent of the last answer: bytes and texts, which lie there until the next call with the handle
+/** @name Borrowing from the last answer: bytes and texts, which are valid until the next call with the handle
  * @{ */
 
-/** The text of the last answer, which is not there where it is null.
+/** Lends the text of the last answer; there is none if it is null.
  * @return HP_OK, or why it was refused. */
 uint8_t hp_text(hp_session *session, hp_text_view *out);
 
-/** The name at an index of the last answer.
+/** Lends the name at an index of the last answer.
  * @return HP_OK, or why it was refused. */
 uint8_t hp_name_at(hp_session *session, size_t index, hp_bytes *out);
 
-/** The line of the reply to the last line, with its newline. It is empty before the first line.
+/** Lends the line of the reply to the last line, with its newline. It is empty before the first line.
  * @return HP_OK, or why it was refused. */
 uint8_t hp_reply_line(hp_session *session, hp_bytes *out);
 
 /** @} */
 
-/** @name What is read of the last answer: its text, and its parts by their index
+/** @name Reading the last answer: its text, and its parts by their index
  * @{ */
 
-/** How many parts the last answer has: numbers, names, rows, records or notices.
+/** Writes the number of parts of the last answer: numbers, names, rows, records or notices.
  * @return HP_OK, or why it was refused. */
 uint8_t hp_count(hp_session *session, size_t *count);
 
-/** The number at an index of the last answer.
+/** Writes the number at an index of the last answer.
  * @return HP_OK, or why it was refused. */
 uint8_t hp_number_at(hp_session *session, size_t index, uint32_t *number);
 
-/** Copies the numbers of the last answer into an array, as many as there is room for, and writes how many there are,
- * which may be more. What stands in the array behind them stays.
+/** Copies the numbers of the last answer into an array, as many as there is room for, and writes their count, which
+ * may be larger. The rest of the array stays.
  * @return HP_OK, or why it was refused. */
 uint8_t hp_numbers_into(hp_session *session, uint32_t *numbers, size_t numbers_capacity, size_t *count);
 
 /** @} */
 
-/** @name The names that a node has: what is lent of them in the answer of `hp_node`
+/** @name The names of a node, borrowed from the answer of `hp_node`
  * @{ */
 
-/** A part of the name of the node that hp_node told of: 0 the name of an element or doctype, or the target of a
+/** Lends a part of the name of the node in hp_node's answer: 0 the name of an element or doctype, or the target of a
  * processing instruction; 1 the public id and 2 the system id of a doctype.
  * @return HP_OK, or why it was refused. */
 uint8_t hp_node_name(hp_session *session, uint8_t part, hp_bytes *out);
 
 /** @} */
 
-/** @name What is read of the rows of a tree, the answer of `hp_tree`
+/** @name Reading the rows of a tree, the answer of `hp_tree`
  * @{ */
 
-/** The row at an index of the last answer.
+/** Writes the row at an index of the last answer.
  * @return HP_OK, or why it was refused. */
 uint8_t hp_row_at(hp_session *session, size_t index, hp_row *row);
 
-/** A part of the name of the node of a row: 0 the name of an element or doctype, or the target of a processing
+/** Lends a part of the name of a row's node: 0 the name of an element or doctype, or the target of a processing
  * instruction; 1 the public id and 2 the system id of a doctype.
  * @return HP_OK, or why it was refused. */
 uint8_t hp_row_name(hp_session *session, size_t index, uint8_t part, hp_bytes *out);
 
-/** The data of the node of a row, which a Text, a Comment and a ProcessingInstruction has.
+/** Lends the data of a row's node. A Text, a Comment and a ProcessingInstruction have data.
  * @return HP_OK, or why it was refused. */
 uint8_t hp_row_text(hp_session *session, size_t index, hp_text_view *out);
 
-/** The name of the attribute at a place among those of a row.
+/** Lends the name of the attribute at a place among those of a row.
  * @return HP_OK, or why it was refused. */
 uint8_t hp_row_attribute_name(hp_session *session, size_t index, size_t at, hp_bytes *out);
 
-/** The value of the attribute at a place among those of a row.
+/** Lends the value of the attribute at a place among those of a row.
  * @return HP_OK, or why it was refused. */
 uint8_t hp_row_attribute_value(hp_session *session, size_t index, size_t at, hp_text_view *out);
 
 /** @} */
 
-/** @name Who was told of records of mutations, the answer of `hp_notify`
+/** @name The notified observers, the answer of `hp_notify`
  * @{ */
 
-/** The observer that hp_notify told at an index, and how many records.
+/** Writes the observer that hp_notify notified at an index, and the number of its records.
  * @return HP_OK, or why it was refused. */
 uint8_t hp_notice_at(hp_session *session, size_t index, hp_notice *notice);
 
 /** @} */
 
-/** @name What is read of records of mutations, the answers of `hp_notify` and `hp_take_records`
+/** @name Reading records of mutations, the answers of `hp_notify` and `hp_take_records`
  * @{ */
 
-/** The record at an index among those of a notice. The records that hp_take_records took stand as the notice 0.
+/** Writes the record at an index among those of a notice. The records that hp_take_records took count as notice 0.
  * @return HP_OK, or why it was refused. */
 uint8_t hp_record_at(hp_session *session, size_t notice, size_t index, hp_record *record);
 
-/** Copies all records of a notice into an array, as many as there is room for, and writes how many there are, which
- * may be more. What stands in the array behind them stays.
+/** Copies all records of a notice into an array, as many as there is room for, and writes their count, which may be
+ * larger. The rest of the array stays.
  * @return HP_OK, or why it was refused. */
 uint8_t hp_records_into(hp_session *session, size_t notice, hp_record *records, size_t records_capacity, size_t *count);
 
-/** The node at a place among those that a record says were added.
+/** Writes the node at a place among the added nodes of a record.
  * @return HP_OK, or why it was refused. */
 uint8_t hp_record_added_at(hp_session *session, size_t notice, size_t index, size_t at, uint32_t *node);
 
-/** The node at a place among those that a record says were removed.
+/** Writes the node at a place among the removed nodes of a record.
  * @return HP_OK, or why it was refused. */
 uint8_t hp_record_removed_at(hp_session *session, size_t notice, size_t index, size_t at, uint32_t *node);
 
-/** The name of the attribute that a record tells of, which is not there where it is null.
+/** Lends the attribute name of a record; there is none if it is null.
  * @return HP_OK, or why it was refused. */
 uint8_t hp_record_name(hp_session *session, size_t notice, size_t index, hp_bytes *out);
 
-/** The old value that a record tells, which is not there where it is null.
+/** Lends the old value of a record; there is none if it is null.
  * @return HP_OK, or why it was refused. */
 uint8_t hp_record_old_value(hp_session *session, size_t notice, size_t index, hp_text_view *out);
 
@@ -435,7 +434,7 @@ uint8_t hp_append_child(hp_session *session, uint32_t parent, uint32_t node);
  * @return HP_OK, or why it was refused. */
 uint8_t hp_adopt_node(hp_session *session, uint32_t document, uint32_t node);
 
-/** Puts a node in place of a child. DOM Standard: Node.replaceChild.
+/** Replaces a child by a node. DOM Standard: Node.replaceChild.
  * @return HP_OK, or why it was refused. */
 uint8_t hp_replace_child(hp_session *session, uint32_t parent, uint32_t node, uint32_t child);
 
@@ -443,23 +442,23 @@ uint8_t hp_replace_child(hp_session *session, uint32_t parent, uint32_t node, ui
  * @return HP_OK, or why it was refused. */
 uint8_t hp_remove_child(hp_session *session, uint32_t parent, uint32_t child);
 
-/** Removes a node from its parent, where it has one. DOM Standard: ChildNode.remove.
+/** Removes a node from its parent, if it has one. DOM Standard: ChildNode.remove.
  * @return HP_OK, or why it was refused. */
 uint8_t hp_remove(hp_session *session, uint32_t node);
 
-/** Puts a node, or with HP_NONE none, in place of all children. DOM Standard: ParentNode.replaceChildren.
+/** Replaces all children by a node, or with HP_NONE by none. DOM Standard: ParentNode.replaceChildren.
  * @return HP_OK, or why it was refused. */
 uint8_t hp_replace_children(hp_session *session, uint32_t parent, uint32_t node);
 
-/** Joins Text nodes below a node that stand side by side, and drops empty ones. DOM Standard: Node.normalize.
+/** Joins adjacent Text nodes below a node, and removes empty ones. DOM Standard: Node.normalize.
  * @return HP_OK, or why it was refused. */
 uint8_t hp_normalize(hp_session *session, uint32_t node);
 
-/** Puts a text in place of what a node has. DOM Standard: Node.textContent.
+/** Replaces the contents of a node by a text. DOM Standard: Node.textContent.
  * @return HP_OK, or why it was refused. */
 uint8_t hp_set_text_content(hp_session *session, uint32_t node, const uint16_t *text, size_t text_length);
 
-/** Lets a node and all below it go.
+/** Frees a node and its descendants.
  * @return HP_OK, or why it was refused. */
 uint8_t hp_discard(hp_session *session, uint32_t node);
 
@@ -468,11 +467,11 @@ uint8_t hp_discard(hp_session *session, uint32_t node);
 /** @name The commands that copy nodes
  * @{ */
 
-/** A copy of a node for another document, with or without all below it. DOM Standard: Document.importNode.
+/** Copies a node for another document, with or without its descendants. DOM Standard: Document.importNode.
  * @return HP_OK, or why it was refused. */
 uint8_t hp_import_node(hp_session *session, uint32_t document, uint32_t node, bool deep, uint32_t *copy);
 
-/** A copy of a node, with or without all below it. DOM Standard: Node.cloneNode.
+/** Copies a node, with or without its descendants. DOM Standard: Node.cloneNode.
  * @return HP_OK, or why it was refused. */
 uint8_t hp_clone_node(hp_session *session, uint32_t node, bool deep, uint32_t *copy);
 
@@ -481,99 +480,100 @@ uint8_t hp_clone_node(hp_session *session, uint32_t node, bool deep, uint32_t *c
 /** @name The questions about nodes
  * @{ */
 
-/** Tells where a node stands, and of which kind it is; hp_node_name lends its names. DOM Standard: Node.
+/** Writes a node's kind and its neighbours; hp_node_name lends its names. DOM Standard: Node.
  * @return HP_OK, or why it was refused. */
 uint8_t hp_node(hp_session *session, uint32_t node, hp_place *place);
 
-/** The children of a node: hp_count and hp_number_at read the answer. DOM Standard: Node.childNodes.
+/** Finds the children of a node: hp_count and hp_number_at read the answer. DOM Standard: Node.childNodes.
  * @return HP_OK, or why it was refused. */
 uint8_t hp_children(hp_session *session, uint32_t node);
 
-/** How many siblings stand before a node. DOM Standard: trees, index.
+/** Writes the number of siblings before a node. DOM Standard: trees, index.
  * @return HP_OK, or why it was refused. */
 uint8_t hp_index(hp_session *session, uint32_t node, size_t *index);
 
-/** The length of a node. DOM Standard: nodes, length.
+/** Writes the length of a node. DOM Standard: nodes, length.
  * @return HP_OK, or why it was refused. */
 uint8_t hp_length(hp_session *session, uint32_t node, size_t *length);
 
-/** The root of a node. DOM Standard: Node.getRootNode.
+/** Writes the root of a node. DOM Standard: Node.getRootNode.
  * @return HP_OK, or why it was refused. */
 uint8_t hp_root(hp_session *session, uint32_t node, uint32_t *root);
 
-/** Whether another node is an inclusive descendant; HP_NONE is none. DOM Standard: Node.contains.
+/** Writes whether another node is an inclusive descendant; HP_NONE is not. DOM Standard: Node.contains.
  * @return HP_OK, or why it was refused. */
 uint8_t hp_contains(hp_session *session, uint32_t node, uint32_t other, uint8_t *contains);
 
-/** Whether both nodes are equal; HP_NONE is equal to none. DOM Standard: Node.isEqualNode.
+/** Writes whether both nodes are equal; HP_NONE equals none. DOM Standard: Node.isEqualNode.
  * @return HP_OK, or why it was refused. */
 uint8_t hp_is_equal(hp_session *session, uint32_t node, uint32_t other, uint8_t *is_equal);
 
-/** Where the second node stands, seen from the first, as the bits of the standard. DOM Standard:
+/** Writes the position of the second node relative to the first, as the bits of the standard. DOM Standard:
  * Node.compareDocumentPosition.
  * @return HP_OK, or why it was refused. */
 uint8_t hp_compare_position(hp_session *session, uint32_t node, uint32_t other, uint32_t *position);
 
-/** The text in a node: hp_text reads the answer, and there is none where it is null. DOM Standard: Node.textContent.
+/** Finds the text in a node: hp_text reads the answer, and has none if it is null. DOM Standard: Node.textContent.
  * @return HP_OK, or why it was refused. */
 uint8_t hp_text_content(hp_session *session, uint32_t node);
 
-/** A node and all below it, in tree order: hp_count counts the rows, hp_row_at and the calls of its kind read them.
+/** Prints a node and its descendants, in tree order: hp_count counts the rows, hp_row_at and the other row calls
+ * read them.
  * @return HP_OK, or why it was refused. */
 uint8_t hp_tree(hp_session *session, uint32_t node);
 
 /** @} */
 
-/** @name What stands around a node, read with no command: the last answer stays, and no memory is taken. A session that has ended answers too, of what it holds, by `HP_ENDED`
+/** @name The neighbours of a node, read without a command: the last answer stays, and no memory is taken. A session that has ended still answers, from the world it holds, with `HP_ENDED`
  * @{ */
 
-/** What a node is, and what stands around it: all of it at once, in constant time.
+/** Writes a node's kind and its neighbours, all at once, in constant time.
  * @return HP_OK, or why it was refused. */
 uint8_t hp_links(hp_session *session, uint32_t node, hp_node_links *links);
 
-/** The first child of a node, or HP_NONE, in constant time.
+/** Writes the first child of a node, or HP_NONE, in constant time.
  * @return HP_OK, or why it was refused. */
 uint8_t hp_first_child(hp_session *session, uint32_t node, uint32_t *child);
 
-/** The last child of a node, or HP_NONE, in constant time.
+/** Writes the last child of a node, or HP_NONE, in constant time.
  * @return HP_OK, or why it was refused. */
 uint8_t hp_last_child(hp_session *session, uint32_t node, uint32_t *child);
 
-/** The child of a node at an index, or HP_NONE where there are no more than that. It goes there from the nearer end.
+/** Writes the child of a node at an index, or HP_NONE past the last. It walks from the nearer end.
  * @return HP_OK, or why it was refused. */
 uint8_t hp_child_at(hp_session *session, uint32_t node, size_t index, uint32_t *child);
 
-/** Copies the numbers of the children of a node into an array, as many as there is room for, and writes how many
- * children there are, which may be more. What stands in the array behind them stays.
+/** Copies the numbers of a node's children into an array, as many as there is room for, and writes the number of
+ * children, which may be larger. The rest of the array stays.
  * @return HP_OK, or why it was refused. */
 uint8_t hp_children_into(hp_session *session, uint32_t node, uint32_t *numbers, size_t numbers_capacity, size_t *count);
 
 /** @} */
 
-/** @name What a node holds, lent with no command: the last answer stays, and no memory is taken. A session that has ended lends too what it holds, by `HP_ENDED`
+/** @name Borrowing a node's name, data and attributes without a command: the last answer stays, and no memory is taken. A session that has ended still lends, with `HP_ENDED`
  * @{ */
 
-/** A part of a node's name: 0 the name of an Element or a DocumentType, or the target of a ProcessingInstruction; 1
- * the public id and 2 the system id of a DocumentType. Another kind has none.
+/** Lends a part of a node's name: 0 the name of an Element or a DocumentType, or the target of a
+ * ProcessingInstruction; 1 the public id and 2 the system id of a DocumentType. Another kind has none.
  * @return HP_OK, or why it was refused. */
 uint8_t hp_name_of(hp_session *session, uint32_t node, uint8_t part, hp_bytes *out);
 
-/** The data of a Text, a Comment or a ProcessingInstruction. Another kind has none.
+/** Lends the data of a Text, a Comment or a ProcessingInstruction. Another kind has none.
  * @return HP_OK, or why it was refused. */
 uint8_t hp_data_of(hp_session *session, uint32_t node, hp_text_view *out);
 
-/** The attribute of a node at a place, from 0 on: its name and its value. Past the last, and in another kind than an
- * Element, there is none.
+/** Lends the attribute of a node at a place, from 0 on: its name and its value. There is none past the last, and
+ * none if the node is no Element.
  * @return HP_OK, or why it was refused. */
 uint8_t hp_attribute_at(hp_session *session, uint32_t node, size_t index, hp_bytes *name, hp_text_view *value);
 
 /** @} */
 
-/** @name How much a session holds, told with no command: the last answer stays, and no memory is taken
+/** @name The number of objects in a session, read without a command: the last answer stays, and no memory is taken
  * @{ */
 
-/** How many objects of each kind the session has, in constant time, so that a host can tell its garbage collector
- * what the session holds.
+/** Writes the number of objects of each kind, in constant time, so that a host can tell its garbage collector the
+ * session's size.
  * @return HP_OK, or why it was refused. */
 uint8_t hp_in_use(hp_session *session, hp_counts *counts);
 
@@ -582,7 +582,7 @@ uint8_t hp_in_use(hp_session *session, hp_counts *counts);
 /** @name The commands on character data
  * @{ */
 
-/** The data of a node: hp_text reads the answer. DOM Standard: CharacterData.data.
+/** Finds the data of a node: hp_text reads the answer. DOM Standard: CharacterData.data.
  * @return HP_OK, or why it was refused. */
 uint8_t hp_data(hp_session *session, uint32_t node);
 
@@ -598,19 +598,19 @@ uint8_t hp_append_data(hp_session *session, uint32_t node, const uint16_t *data,
  * @return HP_OK, or why it was refused. */
 uint8_t hp_insert_data(hp_session *session, uint32_t node, uint32_t offset, const uint16_t *data, size_t data_length);
 
-/** Deletes so many units from an offset on. DOM Standard: CharacterData.deleteData.
+/** Deletes a number of units from an offset on. DOM Standard: CharacterData.deleteData.
  * @return HP_OK, or why it was refused. */
 uint8_t hp_delete_data(hp_session *session, uint32_t node, uint32_t offset, uint32_t count);
 
-/** Puts a text in place of so many units from an offset on. DOM Standard: CharacterData.replaceData.
+/** Replaces a number of units from an offset on by a text. DOM Standard: CharacterData.replaceData.
  * @return HP_OK, or why it was refused. */
 uint8_t hp_replace_data(hp_session *session, uint32_t node, uint32_t offset, uint32_t count, const uint16_t *data, size_t data_length);
 
-/** So many units from an offset on: hp_text reads the answer. DOM Standard: CharacterData.substringData.
+/** Finds a number of units from an offset on: hp_text reads the answer. DOM Standard: CharacterData.substringData.
  * @return HP_OK, or why it was refused. */
 uint8_t hp_substring_data(hp_session *session, uint32_t node, uint32_t offset, uint32_t count);
 
-/** Splits a Text at an offset, and tells the new one. DOM Standard: Text.splitText.
+/** Splits a Text at an offset, and writes the new one. DOM Standard: Text.splitText.
  * @return HP_OK, or why it was refused. */
 uint8_t hp_split_text(hp_session *session, uint32_t text, uint32_t offset, uint32_t *rest);
 
@@ -623,13 +623,13 @@ uint8_t hp_split_text(hp_session *session, uint32_t text, uint32_t offset, uint3
  * @return HP_OK, or why it was refused; also HP_NOT_UTF8. */
 uint8_t hp_set_attribute(hp_session *session, uint32_t element, const uint8_t *name, size_t name_length, const uint16_t *value, size_t value_length);
 
-/** The value of an attribute: hp_text reads the answer, and there is none where it is null. DOM Standard:
+/** Finds the value of an attribute: hp_text reads the answer, and has none if it is null. DOM Standard:
  * Element.getAttribute.
  * @return HP_OK, or why it was refused; also HP_NOT_UTF8. */
 uint8_t hp_get_attribute(hp_session *session, uint32_t element, const uint8_t *name, size_t name_length);
 
-/** Whether there is an attribute of that name. No memory is taken, and a session that has ended answers by HP_ENDED.
- * DOM Standard: Element.hasAttribute.
+/** Writes whether there is an attribute of that name. It takes no memory, and a session that has ended answers with
+ * HP_ENDED. DOM Standard: Element.hasAttribute.
  * @return HP_OK, or why it was refused; also HP_NOT_UTF8. */
 uint8_t hp_has_attribute(hp_session *session, uint32_t element, const uint8_t *name, size_t name_length, uint8_t *is_there);
 
@@ -637,12 +637,12 @@ uint8_t hp_has_attribute(hp_session *session, uint32_t element, const uint8_t *n
  * @return HP_OK, or why it was refused; also HP_NOT_UTF8. */
 uint8_t hp_remove_attribute(hp_session *session, uint32_t element, const uint8_t *name, size_t name_length);
 
-/** Adds or removes an attribute. force is 0 to remove, 1 to add, and 2 for what turns it. DOM Standard:
+/** Adds or removes an attribute. force is 0 to remove, 1 to add, and 2 to toggle. DOM Standard:
  * Element.toggleAttribute.
  * @return HP_OK, or why it was refused; also HP_NOT_UTF8, HP_BAD_CHOICE. */
 uint8_t hp_toggle_attribute(hp_session *session, uint32_t element, const uint8_t *name, size_t name_length, uint8_t force, uint8_t *is_there);
 
-/** The names of the attributes, in order: hp_count and hp_name_at read the answer. DOM Standard:
+/** Finds the names of the attributes, in order: hp_count and hp_name_at read the answer. DOM Standard:
  * Element.getAttributeNames.
  * @return HP_OK, or why it was refused. */
 uint8_t hp_attribute_names(hp_session *session, uint32_t element);
@@ -660,7 +660,7 @@ uint8_t hp_create_range(hp_session *session, uint32_t document, uint32_t *range)
  * @return HP_OK, or why it was refused. */
 uint8_t hp_clone_range(hp_session *session, uint32_t range, uint32_t *copy);
 
-/** The ends of a live range. DOM Standard: AbstractRange.
+/** Writes the ends of a live range. DOM Standard: AbstractRange.
  * @return HP_OK, or why it was refused. */
 uint8_t hp_range(hp_session *session, uint32_t range, hp_ends *ends);
 
@@ -696,11 +696,11 @@ uint8_t hp_collapse(hp_session *session, uint32_t range, bool to_start);
  * @return HP_OK, or why it was refused. */
 uint8_t hp_select_node(hp_session *session, uint32_t range, uint32_t node);
 
-/** Sets the ends around what a node has. DOM Standard: Range.selectNodeContents.
+/** Sets the ends around the contents of a node. DOM Standard: Range.selectNodeContents.
  * @return HP_OK, or why it was refused. */
 uint8_t hp_select_node_contents(hp_session *session, uint32_t range, uint32_t node);
 
-/** Lets a live range go.
+/** Releases a live range.
  * @return HP_OK, or why it was refused. */
 uint8_t hp_release_range(hp_session *session, uint32_t range);
 
@@ -714,19 +714,19 @@ uint8_t hp_release_range(hp_session *session, uint32_t range);
  * @return HP_OK, or why it was refused. */
 uint8_t hp_compare_boundary_points(hp_session *session, uint32_t range, uint32_t how, uint32_t source, int8_t *order);
 
-/** Whether a point is before, in or after a range: -1, 0 or 1. DOM Standard: Range.comparePoint.
+/** Writes whether a point is before, in or after a range: -1, 0 or 1. DOM Standard: Range.comparePoint.
  * @return HP_OK, or why it was refused. */
 uint8_t hp_compare_point(hp_session *session, uint32_t range, uint32_t node, uint32_t offset, int8_t *order);
 
-/** Whether a point is in a range. DOM Standard: Range.isPointInRange.
+/** Writes whether a point is in a range. DOM Standard: Range.isPointInRange.
  * @return HP_OK, or why it was refused. */
 uint8_t hp_is_point_in_range(hp_session *session, uint32_t range, uint32_t node, uint32_t offset, uint8_t *is_in);
 
-/** Whether a range and a node meet. DOM Standard: Range.intersectsNode.
+/** Writes whether a range intersects a node. DOM Standard: Range.intersectsNode.
  * @return HP_OK, or why it was refused. */
 uint8_t hp_intersects_node(hp_session *session, uint32_t range, uint32_t node, uint8_t *intersects);
 
-/** The deepest node that has both ends in it. DOM Standard: Range.commonAncestorContainer.
+/** Writes the deepest inclusive ancestor of both ends. DOM Standard: Range.commonAncestorContainer.
  * @return HP_OK, or why it was refused. */
 uint8_t hp_common_ancestor(hp_session *session, uint32_t range, uint32_t *ancestor);
 
@@ -739,32 +739,32 @@ uint8_t hp_common_ancestor(hp_session *session, uint32_t range, uint32_t *ancest
  * @return HP_OK, or why it was refused. */
 uint8_t hp_create_static_range(hp_session *session, uint32_t start, uint32_t start_offset, uint32_t end, uint32_t end_offset, uint32_t *range);
 
-/** The ends of a static range, and whether it is valid. DOM Standard: StaticRange.
+/** Writes the ends of a static range, and whether it is valid. DOM Standard: StaticRange.
  * @return HP_OK, or why it was refused. */
 uint8_t hp_static_range(hp_session *session, uint32_t range, hp_static_ends *ends);
 
-/** Lets a static range go.
+/** Releases a static range.
  * @return HP_OK, or why it was refused. */
 uint8_t hp_release_static_range(hp_session *session, uint32_t range);
 
 /** @} */
 
-/** @name The commands on what is in a live range
+/** @name The commands on the contents of a live range
  * @{ */
 
-/** The text in a range: hp_text reads the answer. DOM Standard: Range, stringifier.
+/** Finds the text in a range: hp_text reads the answer. DOM Standard: Range, stringifier.
  * @return HP_OK, or why it was refused. */
 uint8_t hp_range_text(hp_session *session, uint32_t range);
 
-/** Deletes what is in a range. DOM Standard: Range.deleteContents.
+/** Deletes the contents of a range. DOM Standard: Range.deleteContents.
  * @return HP_OK, or why it was refused. */
 uint8_t hp_delete_contents(hp_session *session, uint32_t range);
 
-/** Takes what is in a range into a fragment. DOM Standard: Range.extractContents.
+/** Moves the contents of a range into a fragment. DOM Standard: Range.extractContents.
  * @return HP_OK, or why it was refused. */
 uint8_t hp_extract_contents(hp_session *session, uint32_t range, uint32_t *fragment);
 
-/** Copies what is in a range into a fragment. DOM Standard: Range.cloneContents.
+/** Copies the contents of a range into a fragment. DOM Standard: Range.cloneContents.
  * @return HP_OK, or why it was refused. */
 uint8_t hp_clone_contents(hp_session *session, uint32_t range, uint32_t *fragment);
 
@@ -772,7 +772,8 @@ uint8_t hp_clone_contents(hp_session *session, uint32_t range, uint32_t *fragmen
  * @return HP_OK, or why it was refused. */
 uint8_t hp_insert_node(hp_session *session, uint32_t range, uint32_t node);
 
-/** Puts what is in a range into a node, and that node in its place. DOM Standard: Range.surroundContents.
+/** Moves the contents of a range into a node, and inserts the node in their place. DOM Standard:
+ * Range.surroundContents.
  * @return HP_OK, or why it was refused. */
 uint8_t hp_surround_contents(hp_session *session, uint32_t range, uint32_t parent);
 
@@ -789,19 +790,19 @@ uint8_t hp_create_iterator(hp_session *session, uint32_t root, uint32_t show, co
  * @return HP_OK, or why it was refused; also HP_NOT_UTF8, HP_BAD_LENGTHS, HP_BAD_CHOICE. */
 uint8_t hp_create_walker(hp_session *session, uint32_t root, uint32_t show, const uint8_t *names, size_t names_length, const uint32_t *lengths, size_t lengths_length, const uint8_t *verdicts, size_t verdicts_length, uint32_t *walker);
 
-/** Tells where an iterator stands. DOM Standard: NodeIterator.
+/** Writes the position of an iterator. DOM Standard: NodeIterator.
  * @return HP_OK, or why it was refused. */
 uint8_t hp_iterator(hp_session *session, uint32_t iterator, hp_iterator_at *place);
 
-/** Moves an iterator on, and tells the node, or HP_NONE. DOM Standard: NodeIterator.nextNode.
+/** Moves an iterator on, and writes the node, or HP_NONE. DOM Standard: NodeIterator.nextNode.
  * @return HP_OK, or why it was refused. */
 uint8_t hp_next_node(hp_session *session, uint32_t iterator, uint32_t *node);
 
-/** Moves an iterator back, and tells the node, or HP_NONE. DOM Standard: NodeIterator.previousNode.
+/** Moves an iterator back, and writes the node, or HP_NONE. DOM Standard: NodeIterator.previousNode.
  * @return HP_OK, or why it was refused. */
 uint8_t hp_previous_node(hp_session *session, uint32_t iterator, uint32_t *node);
 
-/** Tells where a walker stands. DOM Standard: TreeWalker.
+/** Writes the root and the current node of a walker. DOM Standard: TreeWalker.
  * @return HP_OK, or why it was refused. */
 uint8_t hp_walker(hp_session *session, uint32_t walker, hp_walker_at *place);
 
@@ -809,17 +810,17 @@ uint8_t hp_walker(hp_session *session, uint32_t walker, hp_walker_at *place);
  * @return HP_OK, or why it was refused. */
 uint8_t hp_set_current(hp_session *session, uint32_t walker, uint32_t node);
 
-/** Moves a walker, and tells the node, or HP_NONE. The courses are numbered in the order of the standard: parentNode
- * 0, firstChild 1, lastChild 2, previousSibling 3, nextSibling 4, previousNode 5, nextNode 6. DOM Standard:
+/** Moves a walker, and writes the node, or HP_NONE. Moves are numbered in the order of the standard: parentNode 0,
+ * firstChild 1, lastChild 2, previousSibling 3, nextSibling 4, previousNode 5, nextNode 6. DOM Standard:
  * TreeWalker.
  * @return HP_OK, or why it was refused; also HP_BAD_CHOICE. */
 uint8_t hp_walk(hp_session *session, uint32_t walker, uint8_t direction, uint32_t *node);
 
-/** Lets an iterator go.
+/** Releases an iterator.
  * @return HP_OK, or why it was refused. */
 uint8_t hp_release_iterator(hp_session *session, uint32_t iterator);
 
-/** Lets a walker go.
+/** Releases a walker.
  * @return HP_OK, or why it was refused. */
 uint8_t hp_release_walker(hp_session *session, uint32_t walker);
 
@@ -832,39 +833,39 @@ uint8_t hp_release_walker(hp_session *session, uint32_t walker);
  * @return HP_OK, or why it was refused. */
 uint8_t hp_create_observer(hp_session *session, uint32_t *observer);
 
-/** Lets an observer watch a node. DOM Standard: MutationObserver.observe.
+/** Registers an observer at a node. DOM Standard: MutationObserver.observe.
  * @return HP_OK, or why it was refused; also HP_NOT_UTF8, HP_BAD_LENGTHS, HP_BAD_CHOICE. */
 uint8_t hp_observe(hp_session *session, uint32_t observer, uint32_t node, const hp_options *options, const uint8_t *names, size_t names_length, const uint32_t *lengths, size_t lengths_length);
 
-/** Lets an observer watch nothing more. DOM Standard: MutationObserver.disconnect.
+/** Removes all registrations and records of an observer. DOM Standard: MutationObserver.disconnect.
  * @return HP_OK, or why it was refused. */
 uint8_t hp_disconnect(hp_session *session, uint32_t observer);
 
-/** Takes the records of an observer: hp_count counts them, hp_record_at and the calls of its kind read them, as
+/** Takes the records of an observer: hp_count counts them, hp_record_at and the other record calls read them, as
  * those of notice 0. DOM Standard: MutationObserver.takeRecords.
  * @return HP_OK, or why it was refused. */
 uint8_t hp_take_records(hp_session *session, uint32_t observer);
 
-/** Hands its records to each observer that waits: hp_count counts the observers, hp_notice_at and hp_record_at read
- * what each is told. DOM Standard: notify mutation observers.
+/** Gives each pending observer its records: hp_count counts the observers, hp_notice_at and hp_record_at read the
+ * notices. DOM Standard: notify mutation observers.
  * @return HP_OK, or why it was refused. */
 uint8_t hp_notify(hp_session *session);
 
-/** The observers that wait to be told: hp_count and hp_number_at read the answer.
+/** Finds the pending observers: hp_count and hp_number_at read the answer.
  * @return HP_OK, or why it was refused. */
 uint8_t hp_pending(hp_session *session);
 
-/** Takes the observers that wait to be told, of whom none waits any more: hp_count and hp_number_at read them. Their
- * records wait on for hp_tell_observer, which tells each in its turn. DOM Standard: notify mutation observers.
+/** Takes the pending observers, and none is pending afterwards: hp_count and hp_number_at read them. Their records
+ * stay queued for hp_tell_observer, which notifies each in its turn. DOM Standard: notify mutation observers.
  * @return HP_OK, or why it was refused. */
 uint8_t hp_take_pending(hp_session *session);
 
-/** Tells an observer in its turn: takes its records, which are read as those of hp_take_records, and ends its
+/** Notifies an observer in its turn: takes its records, which are read as those of hp_take_records, and removes its
  * transient registrations. DOM Standard: notify mutation observers.
  * @return HP_OK, or why it was refused. */
 uint8_t hp_tell_observer(hp_session *session, uint32_t observer);
 
-/** Lets an observer go: it watches nothing more, and the records that wait for it are dropped.
+/** Releases an observer: its registrations are removed, and its queued records are dropped.
  * @return HP_OK, or why it was refused. */
 uint8_t hp_release_observer(hp_session *session, uint32_t observer);
 

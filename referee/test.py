@@ -243,6 +243,11 @@ class Itself(Run):
             status, out, err = said(part, "--program", GIVEN.program, "--out", self.folder, "--quiet", "--player", "program", *words)
             self.assertEqual((status, self.cases()), (0, []), out + err)
 
+    def test_counts_in_words(self):
+        """One stream is no "1 streams"."""
+        _, out, err = self.run_of("play", "--player", "program", "--streams", "1")
+        self.assertRegex(out, r": 1 stream, \d+ lines, [\d,]+ lines/s, 0 differ, 0 cases, 0 new; its streams were played\n$", err)
+
 
 class Bodies(unittest.TestCase):
     """Each wrong body is found within a minute, by streams of the group that has its commands; what is kept is short, and is no known difference."""
@@ -305,6 +310,8 @@ class Kept(Run):
             page = file.read()
         parts = ("<h2>New</h2>", ".splitText(", 'class="verdict"', "this core says", "https://dom.spec.whatwg.org/#concept-text-split", "<svg", "<h2>The run</h2>")
         self.assertEqual(sorted(parts, key=page.index), list(parts))
+        # (so the first screen has the code, what it prints and what is due)
+        self.assertLess(page[: page.index('class="verdict"')].partition("<body>")[2].count("\n"), 30)
 
     def test_replay(self):
         status, out, _ = said("replay", *self.player, self.case)
@@ -399,7 +406,7 @@ class Players(unittest.TestCase):
 
     @staticmethod
     def short(name):
-        words = ["--lines", "3000"] if name in LIBRARIES else ["--streams", "3", "--for", "10", "--wait", "2", "--seed", "21"]
+        words = ["--lines", "3000"] if name in LIBRARIES else ["--streams", "9", "--for", "10", "--wait", "2", "--seed", "21"]
         with tempfile.TemporaryDirectory() as folder:
             status, out, err = said("play", *core(), "--out", folder, "--quiet", "--player", name, *words)
             return status, out + err, [it.commands for it in cases_of(folder)[0] if it.known is None]

@@ -6,6 +6,7 @@ and the shared object has to show its calls and no other name. What this machine
 the same bytes on one machine.
 """
 import argparse
+import contextlib
 import hashlib
 import os
 import subprocess
@@ -41,6 +42,11 @@ def write(folder, name, text):
         file.write(text)
 
 
+def text_in(path):
+    with open(path, encoding="utf-8") as file:
+        return file.read()
+
+
 def said_by(*words):
     """What a command writes; nothing if it is not here or fails."""
     try:
@@ -58,20 +64,19 @@ def kit():
     return noted[0].removeprefix("# kit: ") if noted else said_by("rt", "version") or "unknown"
 
 
-def made_of():
-    """What a release was made of: its version, commit and kit, and the sums that the proofs were noted under."""
+def made_of(said=""):
+    """What a release was made of: its version, commit and kit, the sums that the proofs were noted under, and what the kit said of the proofs."""
     commit = said_by("git", "rev-parse", "HEAD") or "unknown"
     changed = " with changes that are not committed" if said_by("git", "status", "--porcelain") else ""
     text = f"version: {VERSION}\ncommit: {commit}{changed}\nkit: {kit()}\nprocessor that made it: {HERE}\n"
-    try:
-        return f"{text}\ngenerated/SUMS, which names the proved code and its sources:\n{assemble.text_of(assemble.SUMS)}"
-    except OSError:
-        return text
+    with contextlib.suppress(OSError):
+        text += f"\ngenerated/SUMS, which names the proved code and its sources:\n{assemble.text_of(assemble.SUMS)}"
+    return f"{text}\nWhat the kit said of the proofs (rt ci):\n{said}" if said else text
 
 
-def close(folder, key):
+def close(folder, key, said):
     """Writes what belongs to a release as a whole: what it was made of, its SBOM, its sums, and the signature of these."""
-    write(folder, MADE_OF, made_of())
+    write(folder, MADE_OF, made_of(said))
     moment = time.strftime("%Y-%m-%dT%H:%M:%SZ", time.gmtime(files.MOMENT))
     write(folder, SBOM, notices.sbom(NAME, VERSION, moment, kit(), sums(folder)))
     write(folder, SUMS, "".join(f"{total}  {name}\n" for name, total in sums(folder).items()))
@@ -84,7 +89,7 @@ def sign(folder, key):
     subprocess.run(["gpg", "--batch", "--yes", "--local-user", key, "--armor", "--detach-sign", os.path.join(folder, SUMS)], check=True)
 
 
-def release(library, to, key=None):
+def release(library, to, key=None, said=""):
     """Makes all files of a release in a folder, which is empty before; returns what was left out, and why."""
     left = {}
     for machine in MACHINES.values():
@@ -95,7 +100,7 @@ def release(library, to, key=None):
                 makers |= {what: (maker, (work, to)) for what, maker in ONCE.items()}
             left |= {f"all for {machine.name}": why} if why else {}
             left |= {what: why for what, (maker, given) in makers.items() if (why := maker(*given))}
-    close(to, key)
+    close(to, key, said)
     return left
 
 
@@ -105,11 +110,12 @@ def main():
     words = "where the libraries are, and the program if it is there too (bindings/c/out, and the program of crates/domserve/out)"
     parser.add_argument("--library", metavar="FOLDER", default=LIBRARY, help=words)
     parser.add_argument("--key", metavar="KEY", help="signs SHA256SUMS by this key of gpg")
+    parser.add_argument("--said", metavar="FILE", help="what `rt ci` said, with a verdict for each crate; it goes into MADE-OF")
     given = parser.parse_args()
     os.makedirs(given.folder, exist_ok=True)
     if os.listdir(given.folder):
         sys.exit(f"{given.folder} is not empty")
-    for what, why in release(given.library, given.folder, given.key).items():
+    for what, why in release(given.library, given.folder, given.key, text_in(given.said) if given.said else "").items():
         print(f"left out: {what}, since {why}")
     for name in sorted(os.listdir(given.folder)):
         print(os.path.join(given.folder, name))

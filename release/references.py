@@ -23,7 +23,7 @@ def of_c(work, room):
         return None
     with open(os.path.join(BINDINGS, "c/Doxyfile"), encoding="utf-8") as file:
         settings = file.read()
-    settings += f"INPUT = {os.path.join(work, HEADER)}\nOUTPUT_DIRECTORY = {room}\nHTML_TIMESTAMP = NO\nFULL_PATH_NAMES = NO\n"
+    settings += f"INPUT = {os.path.join(work, HEADER)}\nOUTPUT_DIRECTORY = {room}\nHTML_TIMESTAMP = NO\nFULL_PATH_NAMES = NO\nHAVE_DOT = NO\n"
     with open(os.path.join(room, "Doxyfile"), "w", encoding="utf-8") as file:
         file.write(settings)
     return os.path.join(room, "html") if tried("doxygen", os.path.join(room, "Doxyfile"), cwd=ROOT) else None

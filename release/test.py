@@ -34,6 +34,7 @@ FOLDER = os.path.dirname(os.path.abspath(__file__))
 sys.path.insert(0, FOLDER)
 import abi
 import debian
+import elsewhere
 import files
 import making
 import notices
@@ -56,8 +57,8 @@ OTHER = next(it for it in MACHINES.values() if it.name != HERE)
 ARCHIVES = f"*-{HERE}-linux.tar.gz"
 # The files that tell of the release as a whole.
 WHOLE = {SUMS, f"{SUMS}.asc"}
-# Debian's Python, for which Debian has psycopg.
-SYSTEM = "/usr/bin/python3"
+# Debian's Python, for which Debian has psycopg; and its cargo, for which Debian has the standard library for another processor.
+SYSTEM, CARGO = "/usr/bin/python3", "/usr/bin/cargo"
 # Whether a folder can be mounted as a copy of another one.
 OVERLAY = "mount -t tmpfs none /mnt && mkdir /mnt/a /mnt/b && mount -t overlay overlay -o lowerdir=/usr,upperdir=/mnt/a,workdir=/mnt/b /usr"
 
@@ -146,7 +147,10 @@ class Sums(Release):
         ids = {it["SPDXID"] for it in [*found["packages"], *found["files"], found]}
         self.assertEqual({it[end] for it in found["relationships"] for end in ("spdxElementId", "relatedSpdxElement")} - ids, set())
         with open(os.path.join(self.made, MADE_OF), encoding="utf-8") as file:
-            self.assertEqual([it.partition(":")[0] for it in file.read().splitlines()[:3]], ["version", "commit", "kit"])
+            text = file.read()
+        self.assertEqual([it.partition(":")[0] for it in text.splitlines()[:3]], ["version", "commit", "kit"])
+        self.assertIn(files.of(making.assemble.SUMS).content.decode(), text)
+        self.assertTrue(making.made_of("dom_model: accepted\n").endswith("\nWhat the kit said of the proofs (rt ci):\ndom_model: accepted\n"))
 
     def test_notice(self):
         self.assertEqual(notices.faults(), [])
@@ -167,6 +171,20 @@ class Sums(Release):
                 continue
             with self.subTest(file):
                 self.assertEqual({it: found.get(it) for it in due}, due)
+
+    @needs("dpkg-deb")
+    def test_terms_of_packages(self):
+        """Debian's packages have the MIT License whole, NOTICE, and the place at which Debian has the Apache License."""
+        mit = files.of(os.path.join(os.path.dirname(FOLDER), "LICENSE-MIT")).content.decode().partition("Permission is hereby granted")[2].split()
+        named = {it["name"] for it in notices.components()}
+        for file in sorted(glob.glob(os.path.join(self.made, "*.deb"))):
+            self.run_in("dpkg-deb", "--extract", file, os.path.basename(file))
+            with open(self.at(os.path.basename(file), f"usr/share/doc/{os.path.basename(file).partition('_')[0]}/copyright"), encoding="utf-8") as text:
+                words = text.read().split()
+            with self.subTest(file):
+                self.assertIn(" ".join(mit), " ".join(it for it in words if it != "."))
+                self.assertIn("/usr/share/common-licenses/Apache-2.0.", words)
+                self.assertEqual({it for it in named if it not in " ".join(words)}, set())
 
     @needs("gpg")
     def test_signature(self):
@@ -229,7 +247,8 @@ class Archive(Release):
     def test_program(self):
         top = self.unpacked(self.file(ARCHIVES))
         self.tries_domserve(os.path.join(top, "bin/domserve"))
-        for it in ("man/man1/domserve.1", "bash-completion/completions/domserve", "zsh/site-functions/_domserve"):
+        pages = ("commands.md", "rules.md", "c-library.md", "release.md", "CHANGELOG.md", "SECURITY.md")
+        for it in ("man/man1/domserve.1", "bash-completion/completions/domserve", "zsh/site-functions/_domserve", *(f"doc/huckleport/{it}" for it in pages)):
             self.assertTrue(os.path.isfile(os.path.join(top, "share", it)), it)
 
     def test_explain(self):
@@ -320,8 +339,18 @@ class Debian(Release):
         for it in debian.PACKAGES:
             self.run_in("sh", "-c", f"cd root && md5sum --quiet --check ../{it}/md5sums")
         self.tries_domserve(os.path.join(top, "usr/bin/domserve"))
-        for it in ("usr/share/man/man1/domserve.1.gz", "usr/share/man/man3/huckleport.3.gz", f"{MULTIARCH}/{SHARED}", "usr/share/doc/huckleport/changelog.gz"):
+        documents = [f"usr/share/doc/{it}/{name}" for it in debian.PACKAGES for name in ("changelog.gz", "copyright")]
+        documents += [f"usr/share/doc/{it}/rules.md" for it in ("huckleport", "libhuckleport-dev")]
+        for it in ("usr/share/man/man1/domserve.1.gz", "usr/share/man/man3/huckleport.3.gz", f"{MULTIARCH}/{SHARED}", *documents):
             self.assertTrue(os.path.isfile(os.path.join(top, it)), it)
+
+    @needs("readelf")
+    def test_stripped(self):
+        """Neither the program nor the shared objects have what only debuggers and linkers ask for."""
+        top = self.extracted()
+        for it in ("usr/bin/domserve", f"{MULTIARCH}/{SHARED}", f"{debian.PYTHON}/huckleport/_core.abi3.so"):
+            with self.subTest(it):
+                self.assertEqual(re.findall(r" (\.(?:symtab|debug\w*|comment))\s", self.run_in("readelf", "-SW", os.path.join(top, it))), [])
 
     @needs("lintian")
     def test_lintian(self):
@@ -411,6 +440,15 @@ class Crate(Release):
     def tries(self, **variables):
         self.assertEqual(self.run_in("cargo", "run", "--quiet", "--offline", **variables), PRINTED)
 
+    def test_what_it_carries(self):
+        """The proved code as text, which cc compiles, and no archive, if generated/ is of these sources."""
+        top = self.unpacked(self.file("*.crate"))
+        names = {it for _, _, its in os.walk(top) for it in its}
+        machines = {it for it in MACHINES if f"huckleport.{it}.s" in names}
+        if not machines:
+            self.skipTest("left out, since generated/ is of other sources")
+        self.assertEqual((machines, {it for it in names if it.endswith((".a", ".so", ".o"))}), (set(MACHINES), set()))
+
     def test_alone_then_by_a_folder_then_by_pkg_config(self):
         self.project()
         # (a pkg-config that finds nothing, whatever is installed on this machine)
@@ -431,14 +469,29 @@ class Crate(Release):
         self.assertIn("test result: ok", self.run_in("cargo", "test", "--quiet", "--offline", "--doc", PKG_CONFIG_LIBDIR=self.at("nowhere")))
 
 
+# Packages that the one for npm needs, with those that these need, as Debian has them.
+NEEDED_BY_NPM = "boolbase css-select css-what dom-serializer domelementtype domhandler domutils entities nth-check".split()
+
+
 @needs("node")
 class Npm(Release):
+    def needed(self):
+        """The files of the needed packages, as npm takes them; None if one is missing."""
+        folders = [f"/usr/share/nodejs/{it}" for it in NEEDED_BY_NPM]
+        if not all(map(os.path.isdir, folders)):
+            return None
+        for it in folders:
+            with tarfile.open(self.at(f"{os.path.basename(it)}.tgz"), "w:gz", dereference=True) as file:
+                file.add(it, "package")
+        return [self.at(f"{it}.tgz") for it in NEEDED_BY_NPM]
+
     def test_in_an_empty_project(self):
         package = self.file("*.tgz")
         with open(self.at("package.json"), "w", encoding="utf-8") as file:
             file.write('{"private": true}\n')
-        if shutil.which("npm"):
-            self.run_in("npm", "install", "--offline", "--no-audit", "--no-fund", package)
+        needed = self.needed() if shutil.which("npm") else None
+        if needed:
+            self.run_in("npm", "install", "--offline", "--no-audit", "--no-fund", *needed, package)
         else:
             os.makedirs(self.at("node_modules"))
             os.rename(self.unpacked(package), self.at("node_modules/huckleport"))
@@ -460,7 +513,7 @@ class References(Release):
 
 
 class Elsewhere(Release):
-    """The other processor's files, under qemu, with its C library as Debian's compiler for it brings it."""
+    """The other processor's files, under qemu: by the C library that Debian's compiler for it brings, and installed beside Debian's packages for it."""
 
     def setUp(self):
         super().setUp()
@@ -468,6 +521,15 @@ class Elsewhere(Release):
         if not shutil.which(OTHER.qemu) or not os.path.isdir(self.root):
             self.skipTest(f"left out, since there is no {OTHER.qemu}, or no {self.root}")
         self.emulated = [OTHER.qemu, "-L", self.root]
+
+    def whole(self):
+        """Returns the folder with Debian's packages for the other processor."""
+        if OTHER.name != other.MACHINE or elsewhere.lacking():
+            self.skipTest(f"left out, since {elsewhere.lacking() or 'this is aarch64'}")
+        return elsewhere.FOLDER
+
+    def packages(self):
+        return [os.path.abspath(self.file(f"{it}_*_{OTHER.debian}.deb")) for it in debian.PACKAGES]
 
     def test_archive(self):
         top = self.unpacked(self.file(f"*-{OTHER.name}-linux.tar.gz"))
@@ -478,29 +540,56 @@ class Elsewhere(Release):
 
     @needs("dpkg-deb")
     def test_packages(self):
-        for name in debian.PACKAGES:
-            package = self.file(f"{name}_*_{OTHER.debian}.deb")
+        for package in self.packages():
             self.assertEqual(self.run_in("dpkg-deb", "--field", package, "Architecture"), f"{OTHER.debian}\n")
             self.run_in("dpkg-deb", "--extract", package, "root")
         self.assertEqual(self.run_in(*self.emulated, self.at("root/usr/bin/domserve"), given=LINES), REPLIES)
 
+    @needs("dpkg")
+    @unittest.skipIf(os.geteuid(), "left out, since only root installs packages")
+    def test_packages_installed(self):
+        """dpkg installs them beside Debian's for that processor, whose fields it checks; each is then used from where it stands."""
+        root = self.at("root")
+        shutil.copytree(self.whole(), root, symlinks=True, ignore=shutil.ignore_patterns("rustlib"))
+        self.run_in("dpkg", f"--root={root}", "--add-architecture", OTHER.debian)
+        self.run_in("dpkg", f"--root={root}", "--install", *self.packages())
+        self.assertEqual(self.run_in("dpkg", f"--root={root}", "--verify", *(f"{it}:{OTHER.debian}" for it in debian.PACKAGES)), "")
+        emulated = elsewhere.emulated(root)
+        self.assertEqual(self.run_in(*emulated, f"{root}/usr/bin/domserve", given=LINES), REPLIES)
+        self.copied("program.py")
+        self.assertEqual(self.run_in(*emulated, f"{root}/usr/bin/python3.11", "program.py"), PRINTED)
+        libraries = f"{root}/usr/lib/{OTHER.multiarch}"
+        self.run_in(f"{OTHER.cross}gcc", EDITOR, f"-I{root}/usr/include", f"-L{libraries}", "-lhuckleport", "-o", "editor")
+        self.tries_editor(*emulated, self.at("editor"))
+
     @needs("lintian")
     def test_lintian(self):
-        packages = [self.file(f"{it}_*_{OTHER.debian}.deb") for it in debian.PACKAGES]
-        ran = subprocess.run(["lintian", "--allow-root", *packages], stdout=subprocess.PIPE, stderr=subprocess.STDOUT, text=True, check=False)
+        ran = subprocess.run(["lintian", "--allow-root", *self.packages()], stdout=subprocess.PIPE, stderr=subprocess.STDOUT, text=True, check=False)
         self.assertEqual((ran.returncode, ran.stdout), (0, ""))
 
     def test_wheel(self):
-        with zipfile.ZipFile(self.file(f"huckleport-*_{OTHER.name}.whl")) as wheel:
-            module = next(it for it in wheel.namelist() if it.endswith(".so"))
-            wheel.extractall(self.folder)
+        """pip installs it for that processor, and a Python of it imports it."""
+        wheel = self.file(f"huckleport-*_{OTHER.name}.whl")
+        if subprocess.run([sys.executable, "-m", "pip", "--version"], stdout=subprocess.DEVNULL, stderr=subprocess.DEVNULL, check=False).returncode:
+            self.skipTest("left out, since there is no pip")
+        platform = ["--platform", OTHER.wheel, "--python-version", "3.11", "--implementation", "cp", "--abi", "abi3", "--only-binary=:all:"]
+        self.run_in(sys.executable, "-m", "pip", "install", "--quiet", "--no-index", "--no-deps", *platform, "--target", "site", wheel)
         # (the processor in the head of an ELF file)
-        self.assertEqual(files.of(self.at(module)).content[18], {"aarch64": 183, "x86_64": 62}[OTHER.name])
-        python = os.path.join(other.PYTHON, "usr/bin/python3.11")
-        if OTHER.name != other.MACHINE or not os.path.isfile(python):
-            self.skipTest(f"left out, the use of it, since there is no {python} (tools/other.py --install)")
+        self.assertEqual(files.of(self.at("site/huckleport/_core.abi3.so")).content[18], {"aarch64": 183, "x86_64": 62}[OTHER.name])
+        whole = self.whole()
         self.copied("program.py")
-        self.assertEqual(self.run_in(OTHER.qemu, "-L", other.PYTHON, python, "program.py", PYTHONPATH=self.folder), PRINTED)
+        self.assertEqual(self.run_in(*elsewhere.emulated(), f"{whole}/usr/bin/python3.11", "program.py", PYTHONPATH=self.at("site")), PRINTED)
+
+    def test_crate(self):
+        """Debian's cargo builds it for that processor, with Debian's standard library for it, and qemu runs the program."""
+        whole = self.whole()
+        if not os.access(CARGO, os.X_OK):
+            self.skipTest(f"left out, since there is no {CARGO}")
+        os.rename(self.unpacked(self.file("*.crate")), self.at("huckleport"))
+        self.copied("Cargo.toml", "main.rs")
+        name = f"CARGO_TARGET_{elsewhere.TARGET.upper().replace('-', '_')}"
+        settings = {f"{name}_LINKER": f"{OTHER.cross}gcc", f"{name}_RUNNER": " ".join(self.emulated), f"{name}_RUSTFLAGS": f"--sysroot={whole}/usr"}
+        self.assertEqual(self.run_in(CARGO, "run", "--quiet", "--offline", "--target", elsewhere.TARGET, **settings, RUSTC="/usr/bin/rustc"), PRINTED)
 
 
 def missing(given):

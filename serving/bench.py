@@ -14,7 +14,7 @@ import uuid
 
 sys.dont_write_bytecode = True
 sys.path.insert(0, os.path.join(os.path.dirname(os.path.abspath(__file__)), "tests"))
-from lines import lines
+from lines import changes, lines
 from place import PROGRAM, Place
 
 from huckleport_serving import connect
@@ -88,8 +88,8 @@ def timed(call):
 
 
 def write_log(place, name, count):
-    """A document with so many lines, as a worker would have recorded them."""
-    given = lines("a long log", count)
+    """A document with so many lines that change it, as a worker would have recorded them."""
+    given = changes(lines("a long log", count * 3 // 2))[:count]
     ran = subprocess.run([PROGRAM], input=b"".join(it + b"\n" for it in given), stdout=subprocess.PIPE, check=True)
     with connect(place.conninfo) as client, connected(place.conninfo) as connection:
         document = client.document(name).id

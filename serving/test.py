@@ -2,7 +2,8 @@
 """Tests served documents against a PostgreSQL that each test starts in a folder of its own, on a socket there alone.
 
 Where this Python has no psycopg and Debian's has, they run over that one; where there is none, or no PostgreSQL, they are left out with a line
-that says so. --whole plays the test of losses with 4 workers, 200 documents, 200,000 lines and 20 clients, in place of a small form.
+that says so. --whole plays the test of losses with 4 workers, 200 documents, 200,000 lines and 20 clients, in place of a small form. So it does
+with orders of five steps, logs of 1,000,000 lines, 200 documents beside one that takes all memory, and 2,000 clients of a pool.
 """
 import argparse
 import importlib.util

@@ -68,6 +68,7 @@ TASKS = (
     Task("README", ("tools/printed.py", "README.md"), (PROGRAM,), seconds=60),
     Task("generated/", ("tools/test_generated.py",), (PROGRAM,), seconds=60),
     Task("dialogues", ("tools/pieces.py",), (PROGRAM,), seconds=5),
+    Task("failing streams", ("tools/manners.py",), (PROGRAM,), seconds=5),
     Task("versions", (BINDINGS, "versions"), seconds=1),
     Task("edits", ("tools/test_edits.py",), is_of_kit=True),
     Task("tools", ("tools/test.py",)),

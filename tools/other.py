@@ -105,7 +105,7 @@ def package(room):
     with open(f"{room}/python", "w", encoding="utf-8") as file:
         file.write(f'#!/bin/sh\nexec {" ".join(python)} "$@"\n')
     os.chmod(f"{room}/python", 0o755)
-    environment = {**os.environ, "PYTHONDONTWRITEBYTECODE": "1", "HUCKLEPORT_SECONDS": "1"}
+    environment = {**os.environ, "PYTHONDONTWRITEBYTECODE": "1", "HUCKLEPORT_SECONDS": "1", "HUCKLEPORT_EMULATED": "1"}
     ran = [passes(*python, "-c", RUN, f"{room}/python", "-q", it, cwd=folder, env=environment) for it in TESTS]
     return all(ran)
 
@@ -114,25 +114,34 @@ def has_python():
     return os.path.isfile(f"{PYTHON}/usr/bin/python3.11") and bool(glob.glob(f"{PYTHON}/usr/include/python3.11/Python.h"))
 
 
-def install():
-    """Takes a Python for aarch64 from Debian, without changing what is installed: lists of that processor are kept in a folder of their own."""
-    if has_python() or lacking():
-        return
+def take(packages, to):
+    """Takes packages for aarch64 from Debian, unpacked below a folder, with the list that dpkg keeps of them; answers whether it could. What is installed here
+    stays as it is: lists of that processor are kept in a folder of their own.
+    """
     with tempfile.TemporaryDirectory() as room:
-        for it in ("lists/partial", "cache/archives/partial", "taken"):
+        for it in ("lists/partial", "cache/archives/partial", "taken", "whole/var/lib/dpkg"):
             os.makedirs(f"{room}/{it}")
         open(f"{room}/status", "w", encoding="utf-8").close()
         words = [f"-o{it}" for it in (f"Dir::State::lists={room}/lists", f"Dir::Cache={room}/cache", f"Dir::State::status={room}/status")]
         words += ["-oAPT::Architecture=arm64", "-oAPT::Architectures::=arm64", "-oAPT::Sandbox::User=root", "-oAcquire::http::Timeout=20"]
         subprocess.run(["apt-get", "-qq", *words, "update"], stdout=subprocess.DEVNULL, stderr=subprocess.DEVNULL, check=False)
-        if subprocess.run(["apt-get", "-qq", *words, "download", *PACKAGES], cwd=f"{room}/taken", stdout=subprocess.DEVNULL, check=False).returncode:
-            return print("no Python for aarch64 could be taken from Debian")
-        for it in glob.glob(f"{room}/taken/*.deb"):
+        if subprocess.run(["apt-get", "-qq", *words, "download", *packages], cwd=f"{room}/taken", stdout=subprocess.DEVNULL, check=False).returncode:
+            return False
+        for it in sorted(glob.glob(f"{room}/taken/*.deb")):
             subprocess.run(["dpkg-deb", "-x", it, f"{room}/whole"], check=True)
-        os.makedirs(os.path.dirname(PYTHON), exist_ok=True)
-        shutil.copytree(f"{room}/whole", f"{PYTHON}.new", symlinks=True)
-        os.rename(f"{PYTHON}.new", PYTHON)
-    return None
+            fields = subprocess.run(["dpkg-deb", "--field", it], stdout=subprocess.PIPE, text=True, check=True).stdout
+            with open(f"{room}/whole/var/lib/dpkg/status", "a", encoding="utf-8") as file:
+                file.write(fields.replace("\n", "\nStatus: install ok installed\n", 1) + "\n")
+        os.makedirs(os.path.dirname(to), exist_ok=True)
+        shutil.copytree(f"{room}/whole", f"{to}.new", symlinks=True)
+        os.rename(f"{to}.new", to)
+    return True
+
+
+def install():
+    """Takes a Python for aarch64."""
+    if not has_python() and not lacking() and not take(PACKAGES, PYTHON):
+        print("no Python for aarch64 could be taken from Debian")
 
 
 def main():

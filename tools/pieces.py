@@ -1,11 +1,12 @@
 #!/usr/bin/env python3
 """Serves each dialogue by the program, byte for byte: whole, in pieces of 1, 7 and 65,536 bytes, and cut in two at places that are spread over it.
 
-A pipe hands the pieces on one by one, so the program reads them as they were written. --every cuts at each byte. The last line says how many dialogues
-passed and failed.
+A pipe hands the pieces on one by one, so the program reads them as they were written. --every cuts at each byte. Lines that are nested deeper than any
+that is read are served on a small stack. The last line says how many dialogues passed and failed.
 """
 import concurrent.futures
 import os
+import resource
 import subprocess
 import sys
 
@@ -14,6 +15,8 @@ from running import LIMIT, dialogues, takes_folders, words_of
 SIZES = (1, 7, 65536)
 # At how many places a dialogue is cut in two.
 CUTS = 12
+# The stack that the program has to do with, in bytes, as docs/commands.md says; and how deep lines are nested on it.
+STACK, DEEPEST = 256 * 1024, 300
 
 
 def takes(parser):
@@ -67,6 +70,23 @@ def fault_of(given, dialogue):
     return count, None
 
 
+def nested_lines():
+    """Returns lines that are nested in arrays and objects, each depth once; each is refused."""
+    made = [line for it in range(2, DEEPEST) for line in ("[" * it + "]" * it, '["observe",0,0,' + '{"a":' * it + "0" + "}" * it + "]")]
+    return "".join(f"{it}\n" for it in made).encode()
+
+
+def fault_on_a_small_stack(given):
+    """Returns the fault of nested lines that are served on a small stack, if there is any."""
+    lines = nested_lines()
+    limit = lambda: resource.setrlimit(resource.RLIMIT_STACK, (STACK, STACK))
+    ran = subprocess.run([given.program], input=lines, stdout=subprocess.PIPE, stderr=subprocess.STDOUT, preexec_fn=limit, timeout=LIMIT, check=False)
+    replies = ran.stdout.splitlines()
+    if ran.returncode or len(replies) != lines.count(b"\n") or any(not it.startswith(b'{"error":') for it in replies):
+        return f"nested lines on a stack of {STACK} bytes: status {ran.returncode}, {ran.stdout[-300:]!r}"
+    return None
+
+
 def main():
     given = words_of(__doc__, takes)
     found = dialogues(given.folders)
@@ -76,8 +96,12 @@ def main():
             runs, failed = runs + count, failed + bool(fault)
             if fault:
                 print(fault, flush=True)
+    fault = None if given.before else fault_on_a_small_stack(given)
+    if fault:
+        failed += 1
+        print(fault, flush=True)
     print(f"{len(found)} dialogues, {runs} runs")
-    print(f"{len(found) - failed} passed, {failed} failed")
+    print(f"{len(found) + (not given.before) - failed} passed, {failed} failed")
     return 1 if failed else 0
 
 

@@ -9,7 +9,8 @@ Parts (all, where none is named):
              that compare what stands then must pass
   dialogues  the program over each dialogue with one growth refused, and with all from one on: the first reply lines, never fewer than
              with an earlier growth refused, then the out-of-memory line, and status 1; where a smaller one does all are there
-  writers    the same with writers that fail: a closed one, one that is always full, one that is full after some bytes; status 3
+  writers    the same with writers that fail: a closed one, one that is always full, one that is full after some bytes; status 3, and
+             the reason if there was memory for it
   leaks      the program under valgrind over each dialogue, whole and with single growths refused; left out where there is no valgrind
   room       the program over scenes in which Texts and attributes lose most of what they had, with the bytes in use at once counted;
              and over smaller ones, as over dialogues
@@ -63,7 +64,7 @@ SCENES = {
 }
 
 WANTING = b"domserve: out of memory\n"
-UNWRITTEN = b"domserve: write failed\n"
+UNWRITTEN = re.compile(rb"domserve: write failed(: (Bad file descriptor|No space left on device|File too large))?\n")
 COUNTS = re.compile(rb"growths (\d+), refused (\d+), left (-?\d+), most (\d+)\n")
 # How a test says that memory was wanting: by its answer, or at its assertion that memory was there.
 SAYS = re.compile(rb"^error: Alloc(Error|Failed \{ \.\. \})$", re.M)
@@ -193,7 +194,7 @@ class Serving:
         writers = [{"output": False}, {"output": "/dev/full"}, {"room": room}]
         for writer in writers:
             found = self.run(folder, {mode: str(growth)}, **writer)
-            due = (3, UNWRITTEN) if whole.out else (whole.status, whole.said)
+            due = (3, found.said if UNWRITTEN.fullmatch(found.said) else None) if whole.out else (whole.status, whole.said)
             if (found.status, found.said, found.out) != (*due, whole.out[: writer["room"]] if "room" in writer else b""):
                 raise Wrong(f"{mode} {growth} with the writer {writer}: {found}")
             leaves_nothing(found)

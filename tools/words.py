@@ -24,12 +24,15 @@ COVERED = (
     "docs/commands.md",
     "docs/costs.md",
     "docs/definitions.md",
+    "docs/DECISIONS.md",
     "docs/editor.md",
     "docs/faq.md",
     "docs/glossary.md",
+    "docs/layers.md",
     "docs/proved.md",
     "docs/rules.md",
     "docs/rust.md",
+    "docs/trust.md",
     "docs/writing.md",
 )
 # The page that lists the words to avoid, so it may have them.

@@ -9,7 +9,7 @@
 - what is released, which no call finds and which keeps no tree, and the memory after a million of each kind;
 - each allocation refused in turn over all dialogues, and over one of the calls that copy names and texts;
 - a session that has ended, read whole and compared with what it held before the call that was refused memory;
-- two sessions on two threads;
+- two sessions on two threads, and deeply nested lines on a thread with a small stack;
 - the examples, as docs/c-library.md shows them; of the one that loads HTML also that libxml2's own tree of what it writes is that of what it read;
 - that page's table of structs, which has the members of the header;
 - the programs above under valgrind: no bad access, nothing in use at the end.
@@ -34,6 +34,8 @@ TESTS = os.path.join(HERE, "tests")
 STRICT = ["-Wall", "-Wextra", "-Werror", "-pedantic"]
 WATCHED = ["valgrind", "-q", "--error-exitcode=9", "--leak-check=full", "--show-leak-kinds=all", "--errors-for-leak-kinds=all"]
 WRAPPED = ["-Wl,--wrap=malloc,--wrap=realloc,--wrap=free"]
+# The stack that each call has to do with, in bytes, as docs/c-library.md says.
+STACK = 192 * 1024
 # The longest that one program may take, in seconds.
 LIMIT = 3600
 
@@ -198,6 +200,12 @@ class Tests:
     def threads(self):
         self.alone("threads", "2", *self.words_of_dialogues(), link=["-pthread"])
 
+    def stacks(self):
+        program = self.compile("stacks", "-pthread")
+        out = program and self.must("a small stack", program, str(STACK), *self.words_of_dialogues())
+        if out:
+            self.say(f"stacks: {out.decode().strip()}")
+
     def example(self):
         source = os.path.join(HERE, "examples/editor.c")
         out = self.alone("editor", source=source)
@@ -262,7 +270,7 @@ class Tests:
         return 1 if self.faults else 0
 
 
-PARTS = ("header", "lines", "typed", "closed", "misuse", "nearby", "counted", "released", "refused", "ended", "threads", "example", "loading", "page")
+PARTS = ("header", "lines", "typed", "closed", "misuse", "nearby", "counted", "released", "refused", "ended", "threads", "stacks", "example", "loading", "page")
 
 
 def main():

@@ -20,6 +20,7 @@ PACKAGES = {
     "parse5": "parsing HTML",
     "saxes": "parsing XML",
     "cssstyle": "the page's styles",
+    "css-select": "the page's selectors",
     "w3c-xmlserializer": "serializing XML",
     "typescript": "comments of the declarations",
     "jsdom": "the page beside jsdom",

@@ -282,9 +282,12 @@ def main():
     parser = argparse.ArgumentParser(description=__doc__, formatter_class=argparse.RawDescriptionHelpFormatter)
     parser.add_argument("--count", type=int, default=100000, help="how many calls a round has; a page has some half as many elements (100000)")
     parser.add_argument("--rounds", type=int, default=5, help="how many rounds (5)")
+    parser.add_argument("--only", default="", metavar="WORDS", help="measure the works alone whose names have these words")
     given = parser.parse_args()
     print("| milliseconds | ours | lxml, or the named one | ours over theirs | minidom |\n|---|---|---|---|---|", flush=True)
     for name, *works in (*(it(given.count) for it in WORKS), *over_pages(given.count), *beside_others(given.count)):
+        if given.only not in name:
+            continue
         ours, theirs, dom = best(works, given.rounds)
         print(f"| {name} | {ours:.1f} | {theirs:.1f} | {ours / theirs:.2f} | {f'{dom:.1f}' if works[2] else ''} |", flush=True)
 

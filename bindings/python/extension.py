@@ -51,6 +51,8 @@ MOVING = {
 MOVES = set()
 # Calls after which an element may have other attributes; a line may change those of any.
 RESHAPING = {"hp_set_attribute", "hp_remove_attribute", "hp_toggle_attribute"}
+# Calls after which nobody is told of what an observer has seen.
+FORGETTING = {"hp_disconnect", "hp_release_observer"}
 # What notes the nodes that a member may leave without a parent, though they have no object.
 LEAVING = {"hp_set_text_content": "note_children", "hp_normalize": "note_texts"}
 # The classes that a member makes, and their family.
@@ -167,12 +169,14 @@ def body(parts, reads, call, answer, refusal):
         first.append(f"moved({calls});")
     if name in RESHAPING:
         first.append(f"reshaped({calls}, {call.split(', ')[1]});")
+    if name in FORGETTING:
+        first.append(f"forget_taken({calls}, {call.split(', ')[1].rstrip(')')});")
     if name == "hp_line":
         first.append(f"labels_drop_pages(&({calls})->labels);")
     if name in LEAVING and "number_of(self)" in call:
         first.append(f"{LEAVING[name]}({calls}, number_of(self));")
     slices = [it.name for it in parts if it.kind == "slice"]
-    text = f"    if (is_busy({calls}))\n        return NULL;\n"
+    text = f"    if ({'is_busy_closing' if name == 'hp_close' else 'is_busy'}({calls}))\n        return NULL;\n"
     text += "    PyObject *found = NULL;\n" if reads or slices else ""
     text += "".join(f"    begin(&{it});\n" for it in slices)
     if not reads and not slices:

@@ -186,9 +186,13 @@ class Calls:
         is_plain: bool,
         /,
     ) -> Tuple[List[Any], Set[str], bool]: ...
-    def read_records(self, session: Session, observer: int, /) -> List[MutationRecord]: ...
+    def read_records(self, observer: MutationObserver, left: List[Optional[Tuple[MutationObserver, List[MutationRecord]]]], /) -> List[MutationRecord]: ...
     def tell(
-        self, session: Session, told: List[Tuple[MutationObserver, List[MutationRecord]]], left: List[Tuple[MutationObserver, List[MutationRecord]]], /
+        self,
+        session: Session,
+        told: List[Optional[Tuple[MutationObserver, List[MutationRecord]]]],
+        left: List[Optional[Tuple[MutationObserver, List[MutationRecord]]]],
+        /,
     ) -> List[BaseException]: ...
 """
 

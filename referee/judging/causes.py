@@ -65,6 +65,13 @@ def name_of_a_copy(shown):
     return (shown.refuses("NamespaceError") or shown.refuses(BY_CHARACTER)) and any(":" in it or it == "xmlns" for it in names)
 
 
+def ids_of_a_copy(shown):
+    """A doctype's copy is told without its public id and its system id."""
+    without = lambda rows: [[*row[:4], "", ""] for row in rows]
+    is_copied = shown.name == "cloneNode" and shown.kind(shown.values[0]) == DOCTYPE
+    return is_copied and shown.only("tree") and all(told.get("ok") == without(due["ok"]) for _, due, told in shown.here)
+
+
 def text_not_well_formed(shown):
     """A text that has half of a surrogate pair is refused."""
     return shown.refuses("*") and any(isinstance(it, list) for it in shown.values)
@@ -84,6 +91,12 @@ def units_of(data):
 def offset_past_the_end(shown):
     """An offset beyond the length of the data is taken."""
     return shown.accepts("IndexSizeError")
+
+
+def nothing_is_replaced(shown):
+    """Data of which no unit is to be replaced stay as they were, though a text is to come in."""
+    _, _, count, text = shown.values if shown.name == "replaceData" else (None, None, None, None)
+    return count == 0 and bool(text) and shown.only("tree") and shown.tells_as_after([])
 
 
 def null_as_a_word(shown):
@@ -322,7 +335,7 @@ def refused_and_taken_out(shown):
     """A refused edit has taken the node out of its old place."""
     if shown.name not in EDITS or "error" not in shown.turns[shown.place].reply or shown.is_at_end():
         return False
-    return not any(map(changes, shown.turns[shown.place :])) and shown.tells(shown.asked([["remove", shown.values[1]]]))
+    return not any(map(changes, shown.turns[shown.place : -1])) and shown.tells(shown.asked([["remove", shown.values[1]]]))
 
 
 def surrounded_half(shown):
@@ -581,7 +594,7 @@ def end_one_too_far(shown):
 
 LISTED = (
     (offset_past_the_end, null_as_a_word, child_of_another, nameless_refusal, endless_in_its_own_place, in_its_own_place, fragment_is_adopted, links_that_stay),
-    (name_of_a_copy, childless_parent_fails, doctype_without_an_element),
+    (nothing_is_replaced, ids_of_a_copy, name_of_a_copy, childless_parent_fails, doctype_without_an_element),
     (document_into_itself, node_taken_anywhere, nameless_instruction, nothing_is_answered, no_list_of_children, joined_to_empty_texts),
     (nothing_in_its_own_place, node_document_alone, text_content_alone, document_is_copied),
     (anything, name_that_xml_has_not, name_that_is_no_qname, name_beyond_ascii, name_with_a_colon, any_name, text_not_well_formed, offset_at_the_end),

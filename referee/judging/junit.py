@@ -1,7 +1,7 @@
 """A run as JUnit XML: a test for each kind of difference, and one for the run."""
 import xml.etree.ElementTree as xml
 
-from judging.report import line, title
+from judging.report import counted, line, title
 
 
 def junit_of(cases, told):
@@ -9,7 +9,7 @@ def junit_of(cases, told):
     counts = {"tests": str(len(cases) + 1), "failures": str(len(new)), "errors": "0", "skipped": str(len(cases) - len(new))}
     suite = xml.Element("testsuite", name=f"referee.{told['player']}", time=str(told["seconds"]), **counts)
     run = xml.SubElement(suite, "testcase", classname=f"referee.{told['player']}", name="run", time=str(told["seconds"]))
-    xml.SubElement(run, "system-out").text = f"{told['streams']} streams, {told['lines']} lines: {told['ended']}"
+    xml.SubElement(run, "system-out").text = f"{counted(told['streams'], 'stream')}, {counted(told['lines'], 'line')}: {told['ended']}"
     for case in cases:
         test = xml.SubElement(suite, "testcase", classname=f"referee.{told['player']}", name=title(case))
         shown = "\n".join(map(line, case.commands)) + f"\ndue  {line(case.replies[-1])}\ntold {line(case.told)}"

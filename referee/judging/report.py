@@ -114,7 +114,7 @@ def head(told, cases, known):
     faults = {it.known for it in cases if it.known in known and known[it.known]["why"] == "fault"}
     new = {group_of(it) for it in cases if it.known is None}
     name = escape(f"{told.get('player', '')} {told.get('version', '')}".strip())
-    counts = f"{told.get('streams', 0):,} streams, {told.get('compared', 0):,} replies compared, {told.get('seconds', 0)} seconds"
+    counts = f"{counted(told.get('streams', 0), 'stream')}, {told.get('compared', 0):,} replies compared, {told.get('seconds', 0)} seconds"
     return f"<h1>{name} beside the DOM Standard</h1><p>{counted(len(faults), 'fault')}, {len(new)} new; {counts}.</p>"
 
 

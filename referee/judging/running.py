@@ -12,7 +12,7 @@ from judging.known import entry_of, entry_of_case
 from judging.moments import last_moments, moments_of, place_of
 from judging.playing_on import Stream
 from judging.process import Fault
-from judging.report import group_of
+from judging.report import counted, group_of
 from judging.shown import Shown
 from judging.shrink import shrunk
 
@@ -79,8 +79,9 @@ class Run:
     def line(self):
         seconds, judge = max(self.seconds(), 0.001), self.judge
         new = len(self.found.new())
-        parts = [f"{judge.streams} streams", f"{judge.lines:,} lines", f"{judge.lines / seconds:,.0f} lines/s", f"{self.differing} differ"]
-        return ", ".join([*parts, f"{len(self.found.cases)} cases, {new} of them new"])
+        parts = [counted(judge.streams, "stream"), counted(judge.lines, "line"), f"{judge.lines / seconds:,.0f} lines/s"]
+        differ = f"{self.differing:,} {'differs' if self.differing == 1 else 'differ'}"
+        return ", ".join([*parts, differ, counted(len(self.found.cases), "case"), f"{new:,} new"])
 
     def tell(self, at_once=False):
         if not self.quiet and (at_once or time.monotonic() - self.told > TELLS_EACH):

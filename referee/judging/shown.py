@@ -5,7 +5,7 @@ from collections import namedtuple
 from functools import cached_property
 
 from judging.commands import COMMANDS, DOCUMENT, MADE, WITH_DATA
-from judging.judge import form_of
+from judging.judge import form_of, same
 from judging.moments import NUMBERLESS, alike, apart, place_of
 from judging.streams import play_commands
 
@@ -141,7 +141,17 @@ class Shown:
         return self.answered(self.commands(at) + commands + [it.command for it in self.turns[at + 1 :]])
 
     def tells(self, reply):
-        return "ok" in reply and "ok" in self.told and alike(reply["ok"], self.told["ok"])
+        """Whether what is told is an answer, or the same refusal."""
+        if "ok" in reply and "ok" in self.told:
+            return alike(reply["ok"], self.told["ok"])
+        return "error" in reply and same(reply, self.told)
+
+    def tells_as_after(self, commands):
+        """Whether all that is told otherwise behind the cause is what comes where other commands stand in its place."""
+        with self.judge.core() as core:
+            play_commands(core, self.commands(self.place) + commands)
+            replies = [(core.reply(question), told) for question, _, told in self.here]
+        return all("ok" in reply and "ok" in told and alike(reply["ok"], told["ok"]) for reply, told in replies)
 
     def ends_where(self, commands):
         """The ends of all ranges where other commands stand in the place of the cause, as replies to the questions behind it."""

@@ -33,6 +33,10 @@ REPLAYING = 4
 """How many times the time of a line a replay has for each. (Lines that were answered just within their bounds are to be replayed.)"""
 
 
+ENDING: List[subprocess.Popen[bytes]] = []
+"""Processes that were killed, and may not have ended."""
+
+
 class Killed(Exception):
     """Something else than its bounds has ended the process of a document."""
 
@@ -155,12 +159,14 @@ class Alone:
         return None if found == SAME else int(found)
 
     def close(self) -> None:
+        """Ends it, and does not wait until its memory is given back: on a busy machine that takes long."""
         assert self._process.stdin is not None and self._process.stdout is not None
         self._process.kill()
-        self._process.wait()
         self._process.stdin.close()
         self._process.stdout.close()
         os.close(self._file)
+        ENDING.append(self._process)
+        ENDING[:] = [it for it in ENDING if it.poll() is None]
 
 
 # ---- the process itself

@@ -22,8 +22,10 @@ $$;
 create function huckleport.check_granted(document bigint) returns void language plpgsql stable as $$
 begin
     -- (its callers run as the owner: whoever is that role has all rights, which is fast to see)
-    if not pg_has_role(session_user, current_user, 'member')
-        and not exists (select from huckleport.grants g where g.document = check_granted.document and g.role = session_user)
+    if pg_has_role(session_user, current_user, 'member') then
+        return;
+    end if;
+    if not exists (select from huckleport.grants g where g.document = check_granted.document and g.role = session_user)
         and not huckleport.is_operator() then
         raise exception 'document % is not granted to %', document, session_user using errcode = 'insufficient_privilege';
     end if;
@@ -46,6 +48,88 @@ security definer set search_path = pg_catalog, pg_temp set jit = off as $$
     delete from huckleport.grants g using huckleport.documents d
     where d.id = g.document and d.name = revoke_document.given and g.role = revoke_document.role
 $$;
+
+-- ---- old parts of logs
+
+-- The lines of a segment. (The form `escape` has no zero byte, so it is a text, and it leaves newlines as they are. An empty line that is alone
+-- is split into none.)
+create function huckleport.opened(segment huckleport.segments)
+returns table (number bigint, client uuid, request bigint, line bytea, reply bytea) language sql stable as $$
+    select segment.first + it.place - 1, it.client::uuid, it.request::bigint, decode(coalesce(it.line, ''), 'escape'), decode(coalesce(it.reply, ''), 'escape')
+    from unnest(string_to_array(segment.clients, ','), string_to_array(segment.requests, ','),
+        string_to_array(encode(segment.lines, 'escape'), E'\n'), string_to_array(encode(segment.replies, 'escape'), E'\n'))
+        with ordinality as it (client, request, line, reply, place)
+$$;
+
+-- All lines of all logs, whether they are in a segment or not.
+create view huckleport.log_lines as
+    select l.document, l.number, l.client, l.request, l.line, l.reply from huckleport.lines l
+    union all
+    select s.document, it.number, it.client, it.request, it.line, it.reply from huckleport.segments s cross join lateral huckleport.opened(s) as it;
+
+-- The number at which a piece of a log ends that begins in a segment: the last one of whole segments, with at most so many lines and bytes; or of
+-- a single one. It is null if the piece begins behind all segments. (Functions that read a log are stable. So all their queries see one state,
+-- also while lines are moved.)
+create function huckleport.segments_end(document bigint, behind bigint, most int, bytes bigint) returns bigint language plpgsql stable as $$
+declare
+    one record;
+begin
+    select s.first, s.last into one from huckleport.segments s
+    where s.document = segments_end.document and s.last > segments_end.behind order by s.last limit 1;
+    if one.first is distinct from behind + 1 then
+        return one.last;
+    end if;
+    return greatest(one.last, (select max(it.last) from (
+        select s.last, sum(octet_length(s.lines) + octet_length(s.replies)) over (order by s.last rows unbounded preceding) as upto
+        from huckleport.segments s
+        where s.document = segments_end.document and s.last > segments_end.behind and s.last <= segments_end.behind + segments_end.most) as it
+        where it.upto <= segments_end.bytes));
+end $$;
+
+-- A client's lines in segments, with requests from one to another.
+create function huckleport.moved(document bigint, client uuid, first bigint, last bigint)
+returns table (request bigint, line bytea, reply bytea) language sql stable as $$
+    select it.request, it.line, it.reply
+    from huckleport.segment_clients c
+    join huckleport.segments s on s.document = c.document and s.last = c.last
+    cross join lateral huckleport.opened(s) as it
+    where c.document = moved.document and c.client = moved.client and c.last_request >= moved.first and c.first_request <= moved.last
+        and it.client = moved.client and it.request between moved.first and moved.last
+$$;
+
+-- Whether a request is that of a line in a segment. (To look into segment_clients first is faster: most requests are above all that it has.)
+create function huckleport.is_moved(document bigint, client uuid, request bigint) returns boolean language sql stable as $$
+    select exists (
+        select from huckleport.segment_clients c
+        join huckleport.segments s on s.document = c.document and s.last = c.last
+        cross join lateral unnest(string_to_array(s.clients, ','), string_to_array(s.requests, ',')) as it (client, request)
+        where c.document = is_moved.document and c.client = is_moved.client and is_moved.request between c.first_request and c.last_request
+            and it.request = is_moved.request::text and it.client = is_moved.client::text)
+$$;
+
+-- The largest request of a client in segments, or null.
+create function huckleport.last_moved(document bigint, client uuid) returns bigint language sql stable as $$
+    select max(c.last_request) from huckleport.segment_clients c where c.document = last_moved.document and c.client = last_moved.client
+$$;
+
+-- The replies to a client's requests behind a number, of its lines in segments: the first so many at least.
+create function huckleport.moved_replies(document bigint, client uuid, behind bigint, most int)
+returns table (request bigint, reply bytea) language plpgsql stable as $$
+declare
+    it record;
+    count bigint := 0;
+    more bigint;
+begin
+    for it in select c.last_request from huckleport.segment_clients c
+        where c.document = moved_replies.document and c.client = moved_replies.client and c.last_request > moved_replies.behind order by c.last_request
+    loop
+        return query select m.request, m.reply from huckleport.moved(document, client, behind + 1, it.last_request) as m;
+        get diagnostics more = row_count;
+        count := count + more;
+        exit when count >= most;
+        behind := it.last_request;
+    end loop;
+end $$;
 
 -- ---- what clients call
 
@@ -126,7 +210,7 @@ create function huckleport.last_request(document bigint, client uuid) returns bi
 security definer set search_path = pg_catalog, pg_temp set jit = off set enable_seqscan = off as $$
 begin
     perform huckleport.check_granted(document);
-    return greatest(0,
+    return greatest(0, huckleport.last_moved(document, client),
         (select max(l.request) from huckleport.lines l where l.document = last_request.document and l.client = last_request.client),
         (select max(r.request) from huckleport.requests r where r.document = last_request.document and r.client = last_request.client),
         (select max(a.request) from huckleport.answers a where a.document = last_request.document and a.client = last_request.client));
@@ -134,21 +218,21 @@ end $$;
 
 -- Refuses lines while more of them wait than the settings allow. To count them takes as long as they are many. So they are counted once for a
 -- 64th of a limit that was handed in, and those of a client over all documents once for a 16th. Small limits are exact.
-create function huckleport.check_waiting(document bigint, client uuid, put int, put_bytes bigint, last_id bigint) returns void language plpgsql as $$
+create function huckleport.check_waiting(document bigint, client uuid) returns void language plpgsql as $$
 declare
     most record;
     count bigint;
     size bigint;
 begin
     select s.document_lines, s.document_bytes, s.client_lines, s.client_bytes into most from huckleport.settings s;
-    if huckleport.is_due(most.document_lines, most.document_bytes, 64, put, put_bytes, last_id) then
+    if document is not null then
         select count(*), sum(octet_length(r.line)) into count, size from huckleport.requests r where r.document = check_waiting.document;
         if count > most.document_lines or size > most.document_bytes then
             raise exception '% lines of % bytes would wait for document %', count, size, document
                 using errcode = 'HP005', hint = 'The settings `document_lines` and `document_bytes` are the limit.';
         end if;
     end if;
-    if huckleport.is_due(most.client_lines, most.client_bytes, 16, put, put_bytes, last_id) then
+    if client is not null then
         select count(*), sum(octet_length(r.line)) into count, size from huckleport.requests r where r.client = check_waiting.client;
         if count > most.client_lines or size > most.client_bytes then
             raise exception '% lines of % bytes of client % would wait', count, size, client
@@ -159,10 +243,10 @@ end $$;
 
 -- Whether lines that were put are to be counted: if the ids of all lines passed a multiple of a part of the limit, or if their bytes are such
 -- a part. Limits below 1,000 lines or 1 MiB are checked each time.
-create function huckleport.is_due(lines bigint, bytes bigint, parts int, put int, put_bytes bigint, last_id bigint) returns boolean language plpgsql as $$
-begin
-    return lines < 1000 or bytes < 1048576 or put_bytes >= bytes / parts or last_id / (lines / parts) <> (last_id - put) / (lines / parts);
-end $$;
+create function huckleport.is_due(lines bigint, bytes bigint, parts int, put int, put_bytes bigint, last_id bigint) returns boolean language sql immutable as $$
+    select lines < 1000 or bytes < 1048576 or put_bytes >= bytes / parts
+        or last_id / greatest(1, lines / parts) <> (last_id - put) / greatest(1, lines / parts)
+$$;
 
 -- Hands lines in, as the requests `first`, `first` + 1 and so on of that client. A request that waits or was answered stays as it is if it is
 -- the same line, and the call is refused if it is another one. A line that is too long for the document is stored up to the byte behind its
@@ -171,30 +255,33 @@ create function huckleport.submit(document bigint, client uuid, first bigint, li
 security definer set search_path = pg_catalog, pg_temp set jit = off set enable_seqscan = off set enable_bitmapscan = off as $$
 declare
     last bigint := submit.first + cardinality(submit.lines) - 1;
-    longest int;
+    most record;
     put int;
-    put_bytes bigint;
-    last_id bigint;
 begin
     perform huckleport.check_granted(document);
-    select d.line + 1 into strict longest from huckleport.documents d where d.id = submit.document;
-    with placed as (
-        insert into huckleport.requests (document, client, request, line)
-        select submit.document, submit.client, submit.first + given.place - 1, substring(given.line for longest)
-        from unnest(submit.lines) with ordinality as given (line, place)
-        order by given.place
-        on conflict on constraint requests_client_document_request_key do nothing
-        returning id, octet_length(requests.line) as size)
-    select count(*), sum(placed.size), max(placed.id) into put, put_bytes, last_id from placed;
+    select d.line + 1 as bytes, s.document_lines, s.document_bytes, s.client_lines, s.client_bytes into strict most
+    from huckleport.documents d cross join huckleport.settings s where d.id = submit.document;
+    insert into huckleport.requests (document, client, request, line)
+    select submit.document, submit.client, submit.first + given.place - 1, substring(given.line for most.bytes)
+    from unnest(submit.lines) with ordinality as given (line, place)
+    order by given.place
+    on conflict on constraint requests_client_document_request_key do nothing;
+    get diagnostics put = row_count;
     -- (Another statement, so it also sees what was recorded while the first one waited for a worker's row.)
     if put < cardinality(lines) or exists (select from huckleport.lines l
             where l.document = submit.document and l.client = submit.client and l.request >= submit.first)
         or exists (select from huckleport.answers a
-            where a.document = submit.document and a.client = submit.client and a.request >= submit.first) then
-        perform huckleport.check_same(document, client, first, last, longest, lines);
+            where a.document = submit.document and a.client = submit.client and a.request >= submit.first)
+        or exists (select from huckleport.segment_clients c
+            where c.document = submit.document and c.client = submit.client and c.last_request >= submit.first) then
+        perform huckleport.check_same(document, client, first, last, most.bytes, lines);
     end if;
-    if put > 0 then
-        perform huckleport.check_waiting(document, client, put, put_bytes, last_id);
+    -- (the last id is that of these lines; their size with that of the array is not below theirs)
+    if put > 0 and huckleport.is_due(most.document_lines, most.document_bytes, 64, put, pg_column_size(lines), lastval()) then
+        perform huckleport.check_waiting(document, null);
+    end if;
+    if put > 0 and huckleport.is_due(most.client_lines, most.client_bytes, 16, put, pg_column_size(lines), lastval()) then
+        perform huckleport.check_waiting(null, client);
     end if;
     perform pg_notify('huckleport_requests', submit.document::text);
 end $$;
@@ -214,6 +301,8 @@ begin
         select a.request, a.line from huckleport.answers a
         where a.document = check_same.document and a.client = check_same.client and a.request between first and last
         union all
+        select m.request, m.line from huckleport.moved(check_same.document, check_same.client, check_same.first, check_same.last) as m
+        union all
         select r.request, r.line from huckleport.requests r
         where r.document = check_same.document and r.client = check_same.client and r.request between first and last)
     select min(known.request) into other from known
@@ -222,10 +311,14 @@ begin
         delete from huckleport.requests r
         where r.document = check_same.document and r.client = check_same.client and r.request between first and last
             and (exists (select from huckleport.lines l where l.document = r.document and l.client = r.client and l.request = r.request)
-                or exists (select from huckleport.answers a where a.document = r.document and a.client = r.client and a.request = r.request));
+                or exists (select from huckleport.answers a where a.document = r.document and a.client = r.client and a.request = r.request)
+                or exists (select from huckleport.segment_clients c
+                    where c.document = r.document and c.client = r.client and r.request between c.first_request and c.last_request)
+                    and huckleport.is_moved(r.document, r.client, r.request));
         select min(r.request) into other from huckleport.requests r
         where r.document = check_same.document and r.client = check_same.client and r.request between first and last
-            and r.request < (select max(l.request) from huckleport.lines l where l.document = r.document and l.client = r.client)
+            and r.request < greatest(huckleport.last_moved(r.document, r.client),
+                (select max(l.request) from huckleport.lines l where l.document = r.document and l.client = r.client))
             and not huckleport.is_question(r.line);
     end if;
     if other is not null then
@@ -244,7 +337,9 @@ returns table (request bigint, reply bytea) language plpgsql security definer se
 set jit = off set enable_seqscan = off set enable_bitmapscan = off as $$
 begin
     perform huckleport.check_granted(document);
-    if not exists (select from huckleport.answers a where a.document = replies.document and a.client = replies.client) then
+    if not exists (select from huckleport.answers a where a.document = replies.document and a.client = replies.client)
+        and not exists (select from huckleport.segment_clients c
+            where c.document = replies.document and c.client = replies.client and c.last_request > replies.behind) then
         return query
         select l.request, l.reply from huckleport.lines l
         where l.document = replies.document and l.client = replies.client and l.request > replies.behind order by l.request limit most;
@@ -257,18 +352,27 @@ begin
     union all
     (select a.request, a.reply from huckleport.answers a
     where a.document = replies.document and a.client = replies.client and a.request > replies.behind order by a.request limit most)
+    union all
+    select m.request, m.reply from (select exists (select from huckleport.segment_clients c
+        where c.document = replies.document and c.client = replies.client and c.last_request > replies.behind) as it) as are_there
+    cross join lateral huckleport.moved_replies(replies.document, replies.client, replies.behind, most) as m where are_there.it
     order by 1 limit most;
 end $$;
 
 -- The lines of a document behind a number, with their replies.
 create function huckleport.entries(document bigint, behind bigint, most int default 1000)
-returns table (number bigint, client uuid, request bigint, line bytea, reply bytea) language plpgsql
+returns table (number bigint, client uuid, request bigint, line bytea, reply bytea) language plpgsql stable
 security definer set search_path = pg_catalog, pg_temp set jit = off as $$
 begin
     perform huckleport.check_granted(document);
     return query
-    select l.number, l.client, l.request, l.line, l.reply from huckleport.lines l
-    where l.document = entries.document and l.number > entries.behind order by l.number limit most;
+    select it.number, it.client, it.request, it.line, it.reply from huckleport.segments s cross join lateral huckleport.opened(s) as it
+    where s.document = entries.document and s.last > entries.behind and s.first <= entries.behind + most
+        and it.number > entries.behind and it.number <= entries.behind + most
+    union all
+    (select l.number, l.client, l.request, l.line, l.reply from huckleport.lines l
+    where l.document = entries.document and l.number > entries.behind and l.number <= entries.behind + most order by l.number)
+    order by 1;
 end $$;
 
 -- The last number of a piece of a log that has at most so many lines and bytes, and at least one line.
@@ -289,18 +393,30 @@ begin
 end $$;
 
 -- The same in one row, which is faster to read: how many lines, the last one's number, and of each its client, its request, line and reply,
--- joined by commas and by newlines.
+-- joined by commas and by newlines. (An aggregate of an ordered query without joins keeps its order, and sorts nothing.)
 create function huckleport.page(document bigint, behind bigint, most int, bytes bigint)
-returns table (count bigint, last bigint, clients text, requests text, lines bytea, replies bytea) language plpgsql
+returns table (count bigint, last bigint, clients text, requests text, lines bytea, replies bytea) language plpgsql stable
 security definer set search_path = pg_catalog, pg_temp set jit = off set enable_bitmapscan = off set max_parallel_workers_per_gather = 0 as $$
 declare
-    ending bigint := huckleport.piece_end(document, behind, most, bytes);
+    ending bigint := huckleport.segments_end(document, behind, most, bytes);
 begin
     perform huckleport.check_granted(document);
-    return query
-    select count(*), max(it.number), string_agg(it.client::text, ','), string_agg(it.request::text, ','), string_agg(it.line, '\x0a'::bytea), string_agg(it.reply, '\x0a'::bytea)
-    from (select l.* from huckleport.lines l where l.document = page.document and l.number > page.behind and l.number <= ending order by l.number) as it
-    having count(*) > 0;
+    if ending is null then
+        ending := huckleport.piece_end(document, behind, most, bytes);
+        return query
+        select count(*), max(it.number), string_agg(it.client::text, ','), string_agg(it.request::text, ','), string_agg(it.line, '\x0a'::bytea), string_agg(it.reply, '\x0a'::bytea)
+        from (select l.* from huckleport.lines l where l.document = page.document and l.number > page.behind and l.number <= ending order by l.number) as it
+        having count(*) > 0;
+    elsif exists (select from huckleport.segments s where s.document = page.document and s.first = page.behind + 1 and s.last > page.behind) then
+        return query
+        select ending - behind, ending, string_agg(it.clients, ','), string_agg(it.requests, ','), string_agg(it.lines, '\x0a'::bytea), string_agg(it.replies, '\x0a'::bytea)
+        from (select s.* from huckleport.segments s where s.document = page.document and s.last > page.behind and s.last <= ending order by s.last) as it;
+    else
+        return query
+        select count(*), max(it.number), string_agg(it.client::text, ','), string_agg(it.request::text, ','), string_agg(it.line, '\x0a'::bytea), string_agg(it.reply, '\x0a'::bytea)
+        from (select o.* from huckleport.segments s cross join lateral huckleport.opened(s) as o
+            where s.document = page.document and s.last = ending and o.number > page.behind order by o.number) as it;
+    end if;
 end $$;
 
 -- ---- what workers call
@@ -345,13 +461,18 @@ security definer set search_path = pg_catalog, pg_temp set jit = off as $$
     returning d.id, d.epoch, d.numbers, d.line, d.attempts
 $$;
 
--- A piece of the log of one document, in the same form. (An aggregate of an ordered query without joins keeps its order, and sorts nothing.)
+-- A piece of the log of one document: how many lines, the last one's number, the lines and the replies by newlines.
 create function huckleport.piece(document bigint, behind bigint, most int, bytes bigint)
-returns table (count bigint, last bigint, lines bytea, replies bytea) language plpgsql
+returns table (count bigint, last bigint, lines bytea, replies bytea) language plpgsql stable
 security definer set search_path = pg_catalog, pg_temp set jit = off set enable_bitmapscan = off set max_parallel_workers_per_gather = 0 as $$
 declare
-    ending bigint := huckleport.piece_end(document, behind, most, bytes);
+    ending bigint := huckleport.segments_end(document, behind, most, bytes);
 begin
+    if ending is not null then
+        return query select * from huckleport.moved_piece(document, behind, ending);
+        return;
+    end if;
+    ending := huckleport.piece_end(document, behind, most, bytes);
     return query
     select count(*), max(it.number), string_agg(it.line, '\x0a'::bytea), string_agg(it.reply, '\x0a'::bytea)
     from (select l.number, l.line, l.reply from huckleport.lines l
@@ -359,20 +480,45 @@ begin
     having count(*) > 0;
 end $$;
 
--- A piece of the logs of some documents, each behind a number: how many lines, the last one's number, the lines and the replies by newlines.
+-- The same of segments, up to one's end: of whole ones, or the rest of one.
+create function huckleport.moved_piece(document bigint, behind bigint, ending bigint)
+returns table (count bigint, last bigint, lines bytea, replies bytea) language plpgsql stable as $$
+begin
+    if exists (select from huckleport.segments s where s.document = moved_piece.document and s.first = moved_piece.behind + 1 and s.last > moved_piece.behind) then
+        return query
+        select ending - behind, ending, string_agg(it.lines, '\x0a'::bytea), string_agg(it.replies, '\x0a'::bytea)
+        from (select s.lines, s.replies from huckleport.segments s
+            where s.document = moved_piece.document and s.last > moved_piece.behind and s.last <= ending order by s.last) as it;
+    else
+        return query
+        select count(*), max(it.number), string_agg(it.line, '\x0a'::bytea), string_agg(it.reply, '\x0a'::bytea)
+        from (select o.* from huckleport.segments s cross join lateral huckleport.opened(s) as o
+            where s.document = moved_piece.document and s.last = ending and o.number > moved_piece.behind order by o.number) as it;
+    end if;
+end $$;
+
+-- A piece of the logs of some documents, each behind a number, in the same form.
 create function huckleport.log(documents bigint[], behind bigint[], most int, bytes bigint)
 returns table (document bigint, count bigint, last bigint, lines bytea, replies bytea) language sql stable
 security definer set search_path = pg_catalog, pg_temp set jit = off as $$
+    with given as (
+        select it.document, it.behind, exists (select from huckleport.segments s where s.document = it.document and s.last > it.behind) as is_moved
+        from unnest(log.documents, log.behind) as it (document, behind))
     select given.document, count(*), max(it.number), string_agg(it.line, '\x0a'::bytea order by it.number), string_agg(it.reply, '\x0a'::bytea order by it.number)
-    from unnest(log.documents, log.behind) as given (document, behind)
+    from given
     cross join lateral (
         select l.number, l.line, l.reply,
             sum(octet_length(l.line) + octet_length(l.reply)) over (order by l.number rows unbounded preceding) as upto
         from huckleport.lines l
         where l.document = given.document and l.number > given.behind
         order by l.number limit log.most) as it
-    where it.upto <= log.bytes or it.number = given.behind + 1
+    where not given.is_moved and (it.upto <= log.bytes or it.number = given.behind + 1)
     group by given.document
+    union all
+    select given.document, it.count, it.last, it.lines, it.replies
+    from given
+    cross join lateral huckleport.moved_piece(given.document, given.behind, huckleport.segments_end(given.document, given.behind, log.most, log.bytes)) as it
+    where given.is_moved
 $$;
 
 -- Notifies clients and followers of what was answered, and then returns what waits for some documents, so many lines and bytes of each.
@@ -384,7 +530,8 @@ begin
     perform pg_notify('huckleport_document_' || it.document, '') from (select distinct unnest(answered)) as it (document);
     return query
     select given.document, array_agg(it.id order by it.id), string_agg(it.line, '\x0a'::bytea order by it.id)
-    from unnest(take.documents) as given (document)
+    from (select it.document, coalesce((select true from huckleport.segments s where s.document = it.document limit 1), false) as is_moved
+        from unnest(take.documents) as it (document)) as given
     cross join lateral (
         select r.id, r.line,
             sum(octet_length(r.line)) over (order by r.id rows unbounded preceding) as upto,
@@ -393,6 +540,9 @@ begin
         where r.document = given.document
             and not exists (
                 select from huckleport.lines l where l.document = r.document and l.client = r.client and l.request = r.request)
+            and not (given.is_moved and exists (select from huckleport.segment_clients c
+                    where c.document = r.document and c.client = r.client and r.request between c.first_request and c.last_request)
+                and huckleport.is_moved(r.document, r.client, r.request))
         order by r.id limit take.most) as it
     where it.upto <= take.bytes or it.place = 1
     group by given.document;
@@ -445,21 +595,33 @@ create function huckleport.drop_answered(worker bigint) returns table (document 
         delete from huckleport.requests r
         where r.document in (select d.id from huckleport.documents d where d.owner = drop_answered.worker)
             and exists (select from huckleport.lines l where l.document = r.document and l.client = r.client and l.request = r.request)
-        returning r.document, r.client)
-    select distinct gone.document, gone.client from gone
+        returning r.document, r.client
+    ), moved as (
+        delete from huckleport.requests r
+        where (select true from huckleport.segment_clients limit 1)
+            and r.document in (select d.id from huckleport.documents d where d.owner = drop_answered.worker)
+            and exists (select from huckleport.segment_clients c
+                where c.document = r.document and c.client = r.client and r.request between c.first_request and c.last_request)
+            and huckleport.is_moved(r.document, r.client, r.request)
+        returning r.document, r.client
+    )
+    select gone.document, gone.client from gone union select moved.document, moved.client from moved
 $$;
 
--- The worker's own documents for which lines wait. Lines that were answered already (a retry that came late) are removed, and their client is
--- notified. Replies to questions that nobody took are forgotten after a minute.
-create function huckleport.sweep(worker bigint) returns setof bigint language plpgsql security definer set search_path = pg_catalog, pg_temp
+-- The worker's own documents for which lines wait. If it `drops`, lines that were answered already (a retry that came late) are removed, and
+-- their client is notified. That looks at each line that waits, so it is for now and then: `take` leaves such lines out.
+create function huckleport.sweep(worker bigint, drops boolean default true) returns setof bigint language plpgsql security definer set search_path = pg_catalog, pg_temp
 set jit = off set enable_hashjoin = off set enable_mergejoin = off set enable_material = off as $$
 begin
-    perform pg_notify('huckleport_client_' || it.client, it.document::text) from huckleport.drop_answered(sweep.worker) as it;
+    if drops then
+        perform pg_notify('huckleport_client_' || it.client, it.document::text) from huckleport.drop_answered(sweep.worker) as it;
+    end if;
     return query
     select d.id from huckleport.documents d
     where d.owner = sweep.worker and d.id in (select r.document from huckleport.requests r);
 end $$;
 
+-- Replies to questions that nobody took are forgotten after a minute.
 create function huckleport.forget_answers() returns void language sql security definer set search_path = pg_catalog, pg_temp set jit = off as $$
     delete from huckleport.answers a where a.at < huckleport.now() - interval '1 minute' or a.at > huckleport.now() + interval '1 minute'
 $$;
@@ -508,4 +670,39 @@ begin
     perform pg_notify('huckleport_client_' || dropped.client, it::text), pg_notify('huckleport_document_' || it, '');
     perform pg_notify('huckleport_requests', 'released');
     return true;
+end $$;
+
+-- Moves the oldest lines of a document's log to a segment, of so many lines and bytes at most, if as many are there beside the newest `keep`.
+-- Returns how many it moved. To move all that is due it is called again and again: each call holds the document's row for a moment only.
+create function huckleport.compress(given text, keep bigint default 10000, most int default 2000, bytes bigint default 262144)
+returns bigint language plpgsql security definer set search_path = pg_catalog, pg_temp set jit = off set enable_bitmapscan = off as $$
+declare
+    it bigint;
+    oldest bigint;
+    newest bigint;
+    ending bigint;
+    moved bigint;
+begin
+    select d.id into strict it from huckleport.documents d where d.name = given for no key update;
+    select min(l.number), max(l.number) into oldest, newest from huckleport.lines l where l.document = it;
+    ending := huckleport.piece_end(it, oldest - 1, most, bytes);
+    if oldest is null or ending > newest - greatest(keep, 1) then
+        return 0;
+    end if;
+    with gone as (
+        delete from huckleport.lines l where l.document = it and l.number between oldest and ending
+        returning l.number, l.client, l.request, l.line, l.reply
+    ), put as (
+        insert into huckleport.segments (document, first, last, clients, requests, lines, replies)
+        select it, oldest, ending, string_agg(g.client::text, ','), string_agg(g.request::text, ','), string_agg(g.line, '\x0a'::bytea), string_agg(g.reply, '\x0a'::bytea)
+        from (select gone.* from gone order by gone.number) as g
+    ), noted as (
+        insert into huckleport.segment_clients (document, client, first_request, last_request, last)
+        select it, gone.client, min(gone.request), max(gone.request), ending from gone group by gone.client
+    )
+    select count(*) into moved from gone;
+    if moved <> ending - oldest + 1 or oldest <> 1 + coalesce((select max(s.last) from huckleport.segments s where s.document = it and s.last < oldest), 0) then
+        raise exception 'the log of document % has a gap below line %', given, ending;
+    end if;
+    return moved;
 end $$;

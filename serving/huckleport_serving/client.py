@@ -257,8 +257,9 @@ class Document:
         times, then = self._handed_in
         if times != self._link.times or time.monotonic() - then > AGAIN:
             self._hand_in_again(until)
-        if not self._is_told:
-            self._link.wait(min(LOOK, until - time.monotonic()))
+        end = min(time.monotonic() + LOOK, until)
+        while not self._is_told and time.monotonic() < end and self._link.wait(end - time.monotonic()):
+            pass
 
     def _hand_in_again(self, until: float) -> None:
         requests, lines = list(self._waiting), list(self._waiting.values())

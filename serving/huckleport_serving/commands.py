@@ -149,6 +149,41 @@ def verified(conninfo: str, given: argparse.Namespace) -> List[Verdict]:
     return found
 
 
+# ---- compress
+
+
+def add_compress(parser: argparse.ArgumentParser) -> None:
+    parser.add_argument("names", nargs="*", metavar="NAME", help="the documents (all)")
+    parser.add_argument("--keep", type=int, default=10_000, metavar="N", help="how many of the newest lines stay as they are (10000)")
+
+
+def compress(given: argparse.Namespace) -> int:
+    """Moves old lines of logs to compressed segments, and prints how many of which document."""
+    found = set()
+    for conninfo in given.database:
+        with connected(conninfo) as connection:
+            names = [it for it, in connection.execute("select name from huckleport.documents order by name")]
+            for name in names if not given.names else sorted(set(names) & set(given.names)):
+                found.add(name)
+                count = compressed(connection, name, given.keep)
+                if count:
+                    print(f"{escaped(name)}: {count} lines moved", flush=True)
+    missing = set(given.names) - found
+    if missing:
+        log.error("there is no document %s", ", ".join(map(escaped, sorted(missing))))
+    return 1 if missing else 0
+
+
+def compressed(connection: psycopg.Connection[Any], name: str, keep: int) -> int:
+    """Moves all of a document's lines that are due, a few at a time, and returns how many they were."""
+    count = 0
+    while True:
+        (moved,) = connection.execute("select huckleport.compress(%s, %s)", (name, keep)).fetchone() or (0,)
+        if not moved:
+            return count
+        count += moved
+
+
 # ---- drop, grant and limits
 
 
@@ -333,6 +368,7 @@ PARTS: Dict[str, Tuple[Callable[[argparse.Namespace], int], Callable[[argparse.A
     "follow": (follow, add_follow, "write a document's lines and replies as they come"),
     "verify": (verify, add_verify, "replay documents, and compare each reply byte for byte"),
     "status": (status, add_status, "print the workers and documents of a database, or one document; 1 if there is a fault"),
+    "compress": (compress, add_compress, "move old lines of logs to compressed segments, which are read as before"),
     "drop": (drop, add_drop, "answer a waiting line by `dropped`, without doing it"),
     "grant": (grant, add_grant, "let a role of the database use a document"),
     "limits": (limits, add_limits, "print or set the limits of documents and clients"),

@@ -35,6 +35,7 @@ DOCUMENT = """
 select d.name, d.version, d.numbers, d.line, d.made::text, d.epoch, d.attempts, d.fault,
     (select w.name from huckleport.workers w where w.id = d.owner and huckleport.is_running(w.until, w.lease)) as worker,
     (select coalesce(max(number), 0) from huckleport.lines where document = d.id) as lines,
+    (select coalesce(max(last), 0) from huckleport.segments where document = d.id) as compressed,
     (select count(*) from huckleport.requests where document = d.id) as waiting,
     (select coalesce(greatest(0, extract(epoch from huckleport.now() - min(at))), 0)::float from huckleport.requests where document = d.id) as oldest_seconds
 from huckleport.documents d where d.name = %s

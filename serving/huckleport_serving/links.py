@@ -44,8 +44,14 @@ Setting = Union[sql.SQL, sql.Composed]
 SETTLING = 5.0
 """For how long a client's first connection waits for another process of the same id to be gone, in seconds."""
 
-TABLES = 2
-"""The version of the tables of `schema.sql`."""
+TABLES = 3
+"""The version of the tables."""
+
+SCRIPTS = ("schema.sql", "added.sql", "segments.sql", "calls.sql", "roles.sql")
+"""What makes the tables in a database that has none."""
+
+UPGRADES = {1: ("dropped.sql", "upgrade_1.sql", *SCRIPTS[1:]), 2: ("dropped.sql", *SCRIPTS[2:])}
+"""What upgrades the tables of each older version."""
 
 # Where a primary was lost, the hosts that are named are asked in turn for the one that takes writes.
 DEFAULTS = {"target_session_attrs": "read-write", "connect_timeout": "5", "application_name": "huckleport", "keepalives_idle": "10", "tcp_user_timeout": "15000"}
@@ -119,20 +125,20 @@ def create_tables(conninfo: str) -> bool:
         # (two that make them at once would meet in the middle)
         connection.execute("select pg_advisory_xact_lock(hashtext('huckleport'))")
         is_new = connection.execute("select to_regnamespace('huckleport')").fetchone() == (None,)
-        first = "schema.sql" if is_new else upgrade(connection)
-        for it in (first, "added.sql", "calls.sql", "roles.sql") if first else ():
+        for it in SCRIPTS if is_new else upgrade(connection):
             connection.execute(script(it))
+        connection.execute("update huckleport.settings set tables = %s where tables <> %s", (TABLES, TABLES))
         connection.execute("update huckleport.settings set questions = %s where questions <> %s", (QUESTIONS, QUESTIONS))
     return is_new
 
 
-def upgrade(connection: psycopg.Connection[Any]) -> Optional[str]:
-    """Returns the script that upgrades the tables of a database, or None if they are of this version."""
+def upgrade(connection: psycopg.Connection[Any]) -> Sequence[str]:
+    """Returns the scripts that upgrade the tables of a database: none if they are of this version."""
     row = connection.execute("select tables from huckleport.settings").fetchone()
-    if row == (1,):
-        return "upgrade_1.sql"
+    if row is not None and row[0] in UPGRADES:
+        return UPGRADES[row[0]]
     check_tables(connection)
-    return None
+    return ()
 
 
 def ready(seconds: float, *files: int) -> bool:
@@ -180,10 +186,24 @@ class Link:
         else:
             raise fault
 
-    def wait(self, seconds: float) -> None:
-        """Waits until the server sends something, at most so long."""
-        if self._connection is not None and not self._connection.closed:
-            ready(seconds, self._connection.fileno())
+    def wait(self, seconds: float) -> bool:
+        """Waits until the server notifies, at most so long. Returns whether it is worth waiting on: not if the connection is lost."""
+        if self._connection is None or self._connection.closed:
+            return False
+        if ready(seconds, self._connection.fileno()):
+            return self._read_notifications(self._connection)
+        return True
+
+    def _read_notifications(self, connection: psycopg.Connection[Any]) -> bool:
+        """Hands on notifications that came, without a statement."""
+        try:
+            connection.pgconn.consume_input()
+        except psycopg.OperationalError:
+            return False
+        while it := connection.pgconn.notifies():
+            if self._on_notify is not None:
+                self._on_notify(it.extra.decode())
+        return True
 
     def close(self) -> None:
         if self._connection is not None:

@@ -28,8 +28,9 @@ class PooledLink(Link):
         with self._pool.connection() as connection:
             return connection.execute(query, parameters, binary=binary)
 
-    def wait(self, seconds: float) -> None:
+    def wait(self, seconds: float) -> bool:
         time.sleep(max(0.0, min(seconds, POLL)))
+        return False
 
     def _lose(self, fault: psycopg.Error, pause: float) -> None:
         # (lines that were handed in are handed in again)

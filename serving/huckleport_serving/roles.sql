@@ -32,6 +32,6 @@ begin
     grant select on all sequences in schema huckleport to huckleport_operator;
     grant update on huckleport.settings to huckleport_operator;
     grant update (version) on huckleport.documents to huckleport_operator;
-    grant execute on function huckleport.grant_document, huckleport.revoke_document, huckleport.drop_line, huckleport.piece, huckleport.now,
-        huckleport.is_running, huckleport.is_operator to huckleport_operator;
+    grant execute on function huckleport.grant_document, huckleport.revoke_document, huckleport.drop_line, huckleport.compress, huckleport.piece, huckleport.opened,
+        huckleport.now, huckleport.is_running, huckleport.is_operator to huckleport_operator;
 end $$;

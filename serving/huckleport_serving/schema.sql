@@ -1,4 +1,4 @@
--- The tables of served documents, version 2. Clients, workers and operators call the functions of calls.sql, and roles.sql says who may.
+-- The tables of served documents, version 3. Clients, workers and operators call the functions of calls.sql, and roles.sql says who may.
 create schema huckleport;
 
 -- One row: the version of these tables, the count of databases over which documents are spread, and the limits of all documents.
@@ -16,7 +16,7 @@ create table huckleport.settings (
     connections int not null default 1000 check (connections > 0),
     questions text not null default '^$'
 );
-insert into huckleport.settings (tables) values (2);
+insert into huckleport.settings (tables) values (3);
 
 -- A worker has one lease of the length `lease` for all of its documents. `until` is by this database's clock, as every time here is.
 create table huckleport.workers (
@@ -48,8 +48,8 @@ create table huckleport.documents (
 ) with (fillfactor = 70);
 create index on huckleport.documents (owner) where owner is not null;
 
--- The log: the lines that change a document, with their replies. `record` and `drop_line` write it. They hold the document's row meanwhile,
--- so no foreign key is checked for each line.
+-- The log: the lines that change a document, with their replies. `compress` moves its old parts to `segments`. Whoever writes it, as `record`
+-- and `drop_line` do, holds the document's row meanwhile, so no foreign key is checked for each line.
 create table huckleport.lines (
     document bigint not null,
     number bigint not null check (number > 0),

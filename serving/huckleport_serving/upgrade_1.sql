@@ -1,13 +1,4 @@
 -- Turns tables of version 1 into those of version 2. Documents and their logs stay as they are.
-do $$
-declare
-    it record;
-begin
-    for it in select p.oid::regprocedure as name from pg_proc p where p.pronamespace = 'huckleport'::regnamespace loop
-        execute format('drop function %s', it.name);
-    end loop;
-end $$;
-
 alter table huckleport.settings
     add column memory bigint not null default 268435456 check (memory >= 16777216),
     add column seconds float not null default 10 check (seconds > 0),
@@ -17,7 +8,6 @@ alter table huckleport.settings
     add column client_bytes bigint not null default 134217728 check (client_bytes > 0),
     add column connections int not null default 1000 check (connections > 0),
     add column questions text not null default '^$';
-update huckleport.settings set tables = 2;
 
 alter table huckleport.workers add column lease interval not null default interval '10 s';
 

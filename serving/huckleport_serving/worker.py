@@ -23,13 +23,16 @@ from .alone import Alone, Killed
 from .leases import Lease
 from .links import connected, first_line, log, ready
 from .questions import is_question
-from .worlds import OUT_OF_MEMORY, OUT_OF_TIME, PROGRAM, Unanswered, Watch, World, differs, resident, split
+from .worlds import OUT_OF_MEMORY, OUT_OF_TIME, PROGRAM, Unanswered, Watch, World, replay, resident, split
 
 CLAIM = 64
 """How many documents are claimed at once, so that workers that start together share what waits."""
 
 PIECE_LINES, PIECE_BYTES = 20_000, 16 << 20
 """How much of the logs is replayed before other documents are served again."""
+
+AHEAD_LINES = 1_000
+"""If a piece of a log has so many lines, the database reads the next one while it is replayed."""
 
 ELSEWHERE = 0.5
 """For how long a document that could not be claimed is not tried again when lines come for it, in seconds."""
@@ -44,7 +47,7 @@ AVOIDED = 10.0
 """For how long a worker leaves a document to others that it had no memory for, in seconds."""
 
 TURN = 0.2
-"""How long the lines of a turn are answered before they are recorded, in seconds."""
+"""How long the lines of a turn are answered before they are recorded, or replayed before other documents are served, in seconds."""
 
 SUSPECT = 3
 """A document that was claimed so many times without a line of it recorded is given a process of its own."""
@@ -55,8 +58,8 @@ MOST_DEATHS = 2
 ALONE_LINES, ALONE_BYTES = 2_000, 4 << 20
 """How much a document in a process of its own is given at once."""
 
-FORGET = 30.0
-"""How often a worker removes replies that nobody took, in seconds."""
+FORGET, DROP = 30.0, 5.0
+"""How often a worker removes replies that nobody took, and lines that were answered already, in seconds."""
 
 
 @dataclass(frozen=True)
@@ -167,12 +170,17 @@ class Tenure:
         self.bounds, self.answered, self.woken = bounds, answered, woken
         name = f"{socket.gethostname()} {os.getpid()}"
         self.held: Dict[int, Held] = {}
+        # Of these: whose logs were not replayed to the end, and the heavy ones. (So no turn looks at all.)
+        self.loading: Dict[int, Held] = {}
+        self.apart: Dict[int, Held] = {}
         self.due: Dict[int, None] = {}
         self.candidates: Set[int] = set()
         self.elsewhere: Dict[int, float] = {}
         self.avoided: Dict[int, float] = {}
         self.told: Tuple[List[Any], List[int]] = ([], [])
-        self.swept = self.forgot = 0.0
+        # The piece of a log that was read ahead: whose, behind which number, and its row.
+        self.ahead: Optional[Tuple[Held, int, Optional[Tuple[Any, ...]]]] = None
+        self.swept = self.forgot = self.dropped = 0.0
         self.memory, self.seconds = 0, 0.0
         self.connection = connected(conninfo, [sql.SQL("listen huckleport_requests")])
         self.connection.add_notify_handler(lambda it: self._notified(it.payload))
@@ -212,7 +220,7 @@ class Tenure:
         if time.monotonic() - self.swept > SWEEP:
             self._sweep()
         elif not is_busy and not self._can_serve() and not self.told[0]:
-            busy = [it.alone.fileno() for it in self.held.values() if it.alone is not None and it.is_busy]
+            busy = [it.alone.fileno() for it in self.apart.values() if it.alone is not None and it.is_busy]
             ready(SWEEP, self.connection.fileno(), self.woken, *busy)
             self.connection.execute("select")
 
@@ -271,13 +279,14 @@ class Tenure:
         except Unanswered:
             held.is_heavy = True
         held.grown = watch.grown
-        if replies:
-            batch.add(held, ids, lines, replies)
         if held.is_heavy or len(replies) < len(lines) or len(lines) >= most:
             self.due[held.document] = None
-        if held.is_heavy:
-            # (its process replays it once these lines are recorded)
-            held.is_whole = False
+        if replies:
+            batch.add(held, ids, lines, replies)
+            # (if it is heavy, its process replays it once these lines are recorded)
+            held.is_whole = not held.is_heavy
+        elif held.is_heavy:
+            self._move(held)
 
     def _start_alone(self, held: Held, ids: List[int], lines: List[bytes]) -> None:
         """Has a document's process answer lines."""
@@ -294,7 +303,7 @@ class Tenure:
 
     def _collect(self) -> bool:
         """Records the lines that documents' own processes have answered, and goes on with those that have replayed some."""
-        done = [it for it in self.held.values() if it.alone is not None and it.is_busy and it.alone.is_done()]
+        done = [it for it in self.apart.values() if it.alone is not None and it.is_busy and it.alone.is_done()]
         batch, over = Batch(), []
         for it in done:
             try:
@@ -368,8 +377,10 @@ class Tenure:
         for document, epoch, numbers, line, attempts in rows:
             if document in self.held:
                 self._drop([self.held[document]], "claimed anew")
-            self.held[document] = held = Held(document, epoch, numbers, line, now, is_heavy=attempts >= SUSPECT)
-            if not held.is_heavy:
+            self.held[document] = self.loading[document] = held = Held(document, epoch, numbers, line, now, is_heavy=attempts >= SUSPECT)
+            if held.is_heavy:
+                self.apart[document] = held
+            else:
                 held.world = World(numbers, line)
         self.elsewhere.update((it, now + ELSEWHERE) for it in named or () if it not in self.held)
         return bool(rows)
@@ -378,10 +389,11 @@ class Tenure:
         """Has a document replayed in a process of its own, which is made when there is room for it."""
         held.close()
         held.last, held.size, held.is_whole, held.is_heavy = 0, 0, False, True
+        self.loading[held.document] = self.apart[held.document] = held
 
     def _replay_alone(self) -> bool:
         """Gives documents' own processes the next piece of their logs. A document without one gets it, if there is room."""
-        waiting = [it for it in self.held.values() if it.is_heavy and not it.is_whole and not it.is_busy]
+        waiting = [it for it in self.apart.values() if not it.is_whole and not it.is_busy]
         is_busy = False
         for it in waiting:
             if it.alone is None and self._has_process():
@@ -400,7 +412,7 @@ class Tenure:
 
     def _has_process(self) -> bool:
         """Returns whether there is room for a process. If there is none, the document goes whose process was idle longest, if only for a second."""
-        alone = [it for it in self.held.values() if it.alone is not None]
+        alone = [it for it in self.apart.values() if it.alone is not None]
         if len(alone) < self.bounds.processes:
             return True
         idle = [it for it in alone if it.is_whole and not it.is_busy and it.document not in self.due and it.used < time.monotonic() - 1.0]
@@ -412,8 +424,7 @@ class Tenure:
         words = "select count, last, lines, replies from huckleport.piece(%s, %s, %s, %s)"
         row = self.connection.execute(words, (held.document, held.last, PIECE_LINES, ALONE_BYTES), binary=True).fetchone()
         if row is None:
-            held.is_whole = True
-            self.due[held.document] = None
+            self._is_loaded(held)
         elif row[1] != held.last + row[0]:
             self._give_up(held, f"a line behind {held.last} is missing")
         else:
@@ -431,53 +442,77 @@ class Tenure:
 
     def _replay(self) -> bool:
         """Replays a piece of the logs of documents that were claimed, which are served once they have been to the end."""
-        loading = [it for it in self.held.values() if not it.is_whole and it.world is not None and not it.is_heavy][:CLAIM]
-        if not loading:
-            return False
-        rows = self._pieces(loading)
-        for document, count, last, lines, replies in rows:
-            self._replay_piece(self.held[document], count, last, split(lines), split(replies))
-        for it in loading:
-            if it.document not in {row[0] for row in rows}:
-                it.is_whole = True
-                self.due[it.document] = None
-        return True
-
-    def _pieces(self, loading: List[Held]) -> List[Tuple[int, int, int, bytes, bytes]]:
-        """Returns the next pieces of logs: of each its document, how many lines, the last one's number, the lines and the replies."""
+        loading = [it for it in self.loading.values() if not it.is_heavy][:CLAIM]
         if len(loading) == 1:
-            words = "select %s::bigint, count, last, lines, replies from huckleport.piece(%s, %s, %s, %s)"
-            given: Tuple[Any, ...] = (loading[0].document, loading[0].document, loading[0].last, PIECE_LINES, PIECE_BYTES)
-        else:
-            words = "select document, count, last, lines, replies from huckleport.log(%s::bigint[], %s::bigint[], %s, %s)"
-            each = max(1, PIECE_LINES // len(loading)), PIECE_BYTES // len(loading)
-            given = array(it.document for it in loading), array(it.last for it in loading), *each
-        return self.connection.execute(words, given, binary=True).fetchall()
+            self._replay_one(loading[0])
+        elif loading:
+            self._replay_some(loading)
+        return bool(loading)
 
-    def _replay_piece(self, held: Held, count: int, last: int, lines: List[bytes], replies: List[bytes]) -> None:
+    def _replay_some(self, loading: List[Held]) -> None:
+        words = "select document, count, last, lines, replies from huckleport.log(%s::bigint[], %s::bigint[], %s, %s)"
+        each = max(1, PIECE_LINES // len(loading)), PIECE_BYTES // len(loading)
+        given = array(it.document for it in loading), array(it.last for it in loading), *each
+        rows = {it[0]: it[1:] for it in self.connection.execute(words, given, binary=True).fetchall()}
+        for it in loading:
+            self._replay_row(it, rows.get(it.document), TURN / len(loading))
+
+    def _replay_one(self, held: Held) -> None:
+        """Replays a piece of the log of one document. If it is long, the database reads the next one meanwhile."""
+        ahead, self.ahead = self.ahead, None
+        if ahead is not None and ahead[0] is held and ahead[1] == held.last:
+            row = ahead[2]
+        else:
+            row = self._piece(held, held.last).fetchone()
+        if row is None or row[0] < AHEAD_LINES:
+            self._replay_row(held, row, TURN)
+            return
+        with self.connection.pipeline():
+            following = self._piece(held, row[1])
+            self._replay_row(held, row, TURN)
+            self.ahead = held, row[1], following.fetchone()
+
+    def _piece(self, held: Held, behind: int) -> psycopg.Cursor[Any]:
+        words = "select count, last, lines, replies from huckleport.piece(%s, %s, %s, %s)"
+        return self.connection.execute(words, (held.document, behind, PIECE_LINES, PIECE_BYTES), binary=True)
+
+    def _replay_row(self, held: Held, row: Optional[Tuple[Any, ...]], seconds: float) -> None:
+        """Replays a piece of a log: how many lines, the last one's number, the lines and the replies. Without one the log is at its end."""
+        if row is None:
+            self._is_loaded(held)
+        elif row[1] != held.last + row[0]:
+            self._give_up(held, f"a line behind {held.last} is missing")
+        else:
+            self._replay_piece(held, split(row[2]), split(row[3]), seconds)
+
+    def _is_loaded(self, held: Held) -> None:
+        """Notes that a document's world has seen its whole log, so its lines are answered."""
+        held.is_whole = True
+        self.loading.pop(held.document, None)
+        self.due[held.document] = None
+
+    def _replay_piece(self, held: Held, lines: List[bytes], replies: List[bytes], seconds: float) -> None:
+        """Replays lines. Those that are left once the time is over are read again in another turn."""
         assert held.world is not None
-        held.size += sum(map(len, lines))
         watch = Watch(held.grown)
         try:
-            wrong = differs(held.world, lines, replies, watch)
+            count, is_wrong = replay(held.world, lines, replies, watch, seconds)
         except Unanswered:
             self._move(held)
             return
         held.grown = watch.grown
-        if last != held.last + count:
-            self._give_up(held, f"a line behind {held.last} is missing")
-        elif wrong is not None:
-            self._give_up(held, f"line {held.last + wrong + 1} has another reply when it is replayed")
-        else:
-            held.last = last
+        held.size += sum(map(len, lines[:count]))
+        held.last += count
+        if is_wrong:
+            self._give_up(held, f"line {held.last + 1} has another reply when it is replayed")
 
     # letting go
 
     def _drop(self, dropped: Sequence[Held], why: str) -> None:
         for it in dropped:
             log.info("document %d: %s", it.document, why)
-            self.held.pop(it.document, None)
-            self.due.pop(it.document, None)
+            for its in (self.held, self.loading, self.apart, self.due):
+                its.pop(it.document, None)
             it.close()
 
     def _let_go(self, found: List[Held]) -> None:
@@ -507,7 +542,10 @@ class Tenure:
         self.swept = time.monotonic()
         self.elsewhere.clear()
         self.memory, self.seconds = self._row("select memory, seconds from huckleport.settings")
-        for (document,) in self.connection.execute("select huckleport.sweep(%s)", (self.id,)).fetchall():
+        drops = self.swept - self.dropped > DROP
+        if drops:
+            self.dropped = self.swept
+        for (document,) in self.connection.execute("select huckleport.sweep(%s, %s)", (self.id, drops)).fetchall():
             if document in self.held:
                 self.due[document] = None
         self._claim(None)
@@ -520,7 +558,7 @@ class Tenure:
 
     def _taken(self) -> int:
         """Returns the bytes of memory that the worker has, with the processes of single documents."""
-        return resident() + sum(it.alone.resident() for it in self.held.values() if it.alone is not None)
+        return resident() + sum(it.alone.resident() for it in self.apart.values() if it.alone is not None)
 
     def _shrink(self) -> None:
         """Lets go of an eighth of the documents for which no line waits; or of a large one, if that is not enough."""

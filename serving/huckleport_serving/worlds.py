@@ -4,7 +4,7 @@ from __future__ import annotations
 
 import resource
 import time
-from typing import List, Optional, Protocol, Sequence
+from typing import List, Sequence, Tuple
 
 import huckleport
 
@@ -20,8 +20,8 @@ LEFT_OUT = frozenset((OUT_OF_MEMORY, OUT_OF_TIME, b'{"error":"dropped"}'))
 LONGEST = 64 << 20
 """The bytes of the longest reply that is recorded."""
 
-WATCHED_LINES = 4
-"""A replay is watched once for so many lines, which together then count as one."""
+WATCHED_LINES, MOST_WATCHED_LINES = 4, 32
+"""A replay is watched once for so many lines, which together then count as one: the first while they are slow, the second otherwise."""
 
 HEAVY_SECONDS, HEAVY_BYTES, WATCHED_SECONDS = 0.05, 64 << 20, 0.005
 """A document is heavy if one of its lines takes so much processor time, or if its lines took so much memory. (Memory is read after lines that
@@ -32,14 +32,6 @@ PAGE = resource.getpagesize()
 
 class Unanswered(Exception):
     """A line that can't be answered in this process, and why. The world is of no use from then on."""
-
-
-class Answers(Protocol):
-    """Answers the lines of one document, from the first on."""
-
-    def answer(self, line: bytes) -> bytes: ...
-
-    def close(self) -> None: ...
 
 
 class World:
@@ -60,6 +52,20 @@ class World:
             raise Unanswered(f"out of memory for a reply of {len(reply)} bytes")
         return reply
 
+    def same(self, lines: Sequence[bytes], replies: Sequence[bytes]) -> int:
+        """Answers lines, and returns how many have these replies, up to the first that has another one."""
+        try:
+            found = list(map(self._session.line, lines))
+        except (MemoryError, huckleport.OutOfMemory) as fault:
+            raise Unanswered("out of memory") from fault
+        # (no reply has a newline in it, so this compares each)
+        if b"".join(found) == b"\n".join(replies) + b"\n":
+            return len(replies)
+        wrong = next(at for at, reply in enumerate(replies) if found[at][:-1] != reply)
+        if found[wrong][:-1] == OUT_OF_MEMORY:
+            raise Unanswered("out of memory")
+        return wrong
+
     def close(self) -> None:
         self._session.close()
 
@@ -68,7 +74,7 @@ class Watch:
     """Tells whether the lines of a document are heavy, from one line to the next."""
 
     def __init__(self, grown: int = 0) -> None:
-        self.grown = grown
+        self.grown, self.is_slow = grown, False
         self._memory = resident()
         self._start = time.perf_counter()
         self._used = time.thread_time()
@@ -77,7 +83,8 @@ class Watch:
         """Returns whether the line that was just answered shows that the document is heavy."""
         now = time.perf_counter()
         took, self._start = now - self._start, now
-        if took < WATCHED_SECONDS:
+        self.is_slow = took >= WATCHED_SECONDS
+        if not self.is_slow:
             return False
         used = time.thread_time()
         took, self._used = min(took, used - self._used), used
@@ -87,18 +94,27 @@ class Watch:
         return took > HEAVY_SECONDS or self.grown > HEAVY_BYTES
 
 
-def differs(world: Answers, lines: Sequence[bytes], replies: Sequence[bytes], watch: Optional[Watch] = None) -> Optional[int]:
-    """Answers lines that were answered before, and returns the index of the first whose reply is another one now, if there is one.
+def replay(world: World, lines: Sequence[bytes], replies: Sequence[bytes], watch: Watch, seconds: float) -> Tuple[int, bool]:
+    """Answers lines that were answered before, for so many seconds. Returns how many have the same reply, and whether the next one has another.
 
     Raises `Unanswered` if a line is heavy for the watch.
     """
-    answer = world.answer
-    for at, (line, reply) in enumerate(zip(lines, replies)):
-        if reply not in LEFT_OUT and answer(line) != reply:
-            return at
-        if watch is not None and not at % WATCHED_LINES and watch.is_heavy():
+    at, until = 0, time.monotonic() + seconds
+    while at < len(lines) and (not at or time.monotonic() < until):
+        end = at + (WATCHED_LINES if watch.is_slow else MOST_WATCHED_LINES)
+        if not LEFT_OUT.isdisjoint(replies[at:end]):
+            end = at + 1
+            if replies[at] in LEFT_OUT:
+                at = end
+                continue
+        due = replies[at:end]
+        same = world.same(lines[at:end], due)
+        at += same
+        if same < len(due):
+            return at, True
+        if watch.is_heavy():
             raise Unanswered("heavy")
-    return None
+    return at, False
 
 
 def resident(process: str = "self") -> int:

@@ -90,7 +90,8 @@ class Place:
         """Where the database is: at the primary, or at the standby once that was promoted."""
         folders = [it.folder for it in (self.primary, self.standby) if it]
         ports = ",".join([self.primary.settings.get("port", "5432"), "5432"][: len(folders)])
-        return f"host={','.join(folders)} port={ports} dbname=postgres user=postgres"
+        # (a busy machine takes long to start a connection's process)
+        return f"host={','.join(folders)} port={ports} dbname=postgres user=postgres connect_timeout=60"
 
     @staticmethod
     def environment() -> Dict[str, str]:

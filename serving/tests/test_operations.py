@@ -31,6 +31,13 @@ ELEMENT = b'["createElement",0,"p"]'
 TABLES = os.path.join(os.path.dirname(os.path.abspath(__file__)), "schema_1.sql")
 
 
+def used(process: int) -> float:
+    """Returns the seconds of processor time that a process has had."""
+    with open(f"/proc/{process}/stat", encoding="ascii") as file:
+        words = file.read().rpartition(") ")[2].split()
+    return (int(words[11]) + int(words[12])) / os.sysconf("SC_CLK_TCK")
+
+
 class Questions(unittest.TestCase):
     def test_each_is_a_command(self) -> None:
         with open(os.path.join(ROOT, "docs/commands.json"), encoding="utf-8") as file:
@@ -225,6 +232,28 @@ class Operations(Served):
         self.assertEqual(seen, count)
         told(f"{count:,} lines followed in {time.monotonic() - start:.1f} s")
 
+    def test_a_long_log_is_taken_over(self) -> None:
+        """A worker replays a long log, of which another one answers for. Other documents are served in between."""
+        count = 1_000_000 if os.environ.get("HUCKLEPORT_WHOLE") else 25_000
+        document = self.client.document("long")
+        words = """insert into huckleport.lines select %s, it, %s, it, convert_to('["createText",0,"' || it %% 100 || '"]', 'UTF8'), convert_to('{"ok":' || it || '}', 'UTF8')
+            from generate_series(1, %s) as it"""
+        self.connection.execute(words, (document.id, uuid.uuid4(), count))
+        worker = self.work()
+        other = self.client.document("another")
+        other.ask(ELEMENT)
+        before, start = used(worker.pid), time.monotonic()
+        requests, waits = document.post([ELEMENT]), []
+        while not self.connection.execute("select from huckleport.lines where document = %s and number > %s", (document.id, count)).fetchall():
+            asked = time.monotonic()
+            other.ask(ELEMENT)
+            waits.append(time.monotonic() - asked)
+        self.assertEqual(document.reply(requests[0]), b'{"ok":%d}' % (count + 1))
+        took = used(worker.pid) - before
+        told(f"{count:,} lines replayed in {time.monotonic() - start:.1f} s, {took:.1f} s of the worker's processor time; another document waited {max(waits):.2f} s")
+        # (on a quiet machine it is about a third of this)
+        self.assertLess(took, 1 + 6e-6 * count)
+
     # backups
 
     def test_a_dump_is_restored(self) -> None:
@@ -232,6 +261,8 @@ class Operations(Served):
         given = lines("dumped", 200)
         document = self.client.document("dumped")
         self.assertEqual(document.send(given), replies_of(given))
+        # (half of the log is in a segment)
+        self.assertEqual(self.row("select huckleport.compress('dumped', 1, 80)"), (80,))
         dump = os.path.join(self.place.folder, "dump")
         self.run_server_program("pg_dump", "--format=custom", "--no-unlogged-table-data", "--file", dump, "--dbname", self.place.conninfo)
         self.connection.execute("create database restored")
@@ -325,6 +356,22 @@ class Upgrade(unittest.TestCase):
             self.assertFalse(create_tables(older))
             self.assertFalse(create_tables(older))
             self.check(place, older, given, who)
+
+    def test_tables_of_version_2(self) -> None:
+        """They had no segments, and the rest as it is now."""
+        with Place() as place:
+            with psycopg.connect(place.conninfo, autocommit=True) as connection:
+                connection.execute("create database older")
+                older = place.conninfo.replace("dbname=postgres", "dbname=older")
+                create_tables(older)
+            with psycopg.connect(older, autocommit=True) as connection:
+                connection.execute("drop table huckleport.segments, huckleport.segment_clients cascade")
+                connection.execute("update huckleport.settings set tables = 2")
+                connection.execute("select huckleport.make('older')")
+            self.assertFalse(create_tables(older))
+            with psycopg.connect(older) as connection, psycopg.connect(place.conninfo) as new:
+                self.assertEqual(self.shape(connection), self.shape(new))
+                self.assertEqual(connection.execute("select name from huckleport.documents").fetchall(), [("older",)])
 
     def fill(self, connection: psycopg.Connection[Any], given: List[bytes], who: uuid.UUID) -> None:
         """A document as clients and workers of that version left it, and a line that waits."""

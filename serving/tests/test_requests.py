@@ -3,19 +3,20 @@
 from __future__ import annotations
 
 import itertools
+import multiprocessing
 import os
 import subprocess
 import time
 import unittest
 import uuid
-from typing import Any, ClassVar, Dict, List, Optional, Set, Tuple
+from typing import Any, ClassVar, Dict, List, Optional, Sequence, Set, Tuple
 
 from lines import changes
-from place import Place, replies_of
+from place import Place, replies_of, told
 from test_documents import Served
 
 from huckleport_serving import Client, ClientInUse, NotAnswered, OtherLine, connect
-from huckleport_serving.worker import Bounds, Tenure
+from huckleport_serving.worker import CLAIM, Bounds, Tenure
 
 ELEMENT, COMMENT, QUESTION = b'["createElement",0,"p"]', b'["createComment",0,"c"]', b'["tree",0]'
 EMPTY = b'{"ok":[[0,0,9,"#document"]]}'
@@ -81,13 +82,34 @@ class Waiting(Served):
         self.assertEqual(self.connected(client=who).document("in use")._next, 2)
 
 
-# A step of the property test: client a or b sends a line, client a asks a question, sends another line under its last number, or is started
-# anew and sends its last line again if it has no reply; the worker serves, or is lost after it has claimed, and replaced by another one.
-STEPS = "abqorsw"
+# A step of the property test. Client a or b sends a line; a asks a question, or sends another line under its last number. Client a takes the
+# replies that are there, is started anew, and sends its last line again if it has no reply (r). Client b is started anew without a look at its
+# replies, and sends its last line again (t). The worker serves (w), or is lost after it has claimed, and another one begins (s).
+STEPS, RESTARTS = "abqortsw", "rts"
+PROCESSES = 4
+
+
+def does_something(steps: Sequence[str]) -> bool:
+    """Returns whether each step of an order has something to act on: a client that did nothing before is not started anew and sends no other line,
+    and the worker serves only if lines may wait. (An order with such a step is a shorter one. A shorter one ends as if a step `w` or `s` followed,
+    since all are served and read at the end. So the orders of the full length show what the shorter ones would.)
+    """
+    acted: Set[str] = set()
+    waits = False
+    for it in steps:
+        if (it in "or" and not acted & {"a", "q"}) or (it == "t" and "b" not in acted) or (it == "w" and not waits):
+            return False
+        acted.add(it)
+        waits = it in "abqrt" or (waits and it != "w")
+    return True
 
 
 class Orders(unittest.TestCase):
-    """All orders of up to so many steps, each with a document of its own. The documents take their steps together, so workers serve many."""
+    """All orders of up to so many steps, each with a document of its own.
+
+    Orders whose processes are started anew at the same steps share these processes, and take their steps together. In no other way does one
+    order depend on another one.
+    """
 
     place: ClassVar[Place]
     most: ClassVar[int] = 5 if os.environ.get("HUCKLEPORT_WHOLE") else 3
@@ -97,8 +119,33 @@ class Orders(unittest.TestCase):
         cls.place = cls.enterClassContext(Place(settings={"fsync": "off", "synchronous_commit": "off"}))
 
     def test_each_line_gets_its_own_reply(self) -> None:
-        # (an order whose first step has nothing to act on is a shorter one)
-        orders = ["".join(it) for it in itertools.product("abq", *[STEPS] * (self.most - 1))]
+        start, scenes = time.monotonic(), self.scenes()
+        # (the time goes in waiting for the database, so some are played at once)
+        shares = [sorted(scenes)[at::PROCESSES] for at in range(PROCESSES)]
+        context = multiprocessing.get_context("fork")
+        started = [context.Process(target=self.play_all, args=([scenes[it] for it in its],)) for its in shares]
+        for it in started:
+            it.start()
+        for it in started:
+            it.join()
+        self.assertEqual([it.exitcode for it in started], [0] * PROCESSES)
+        count = sum(map(len, scenes.values()))
+        self.assertGreater(count, len(STEPS) ** (self.most - 1))
+        told(f"{count:,} orders of {self.most} steps, {len(scenes)} times with new processes, in {time.monotonic() - start:.0f} s")
+
+    def scenes(self) -> Dict[str, List[str]]:
+        """Returns the orders by the steps at which which process is started anew."""
+        found: Dict[str, List[str]] = {}
+        for steps in itertools.product("abq", *[STEPS] * (self.most - 1)):
+            if does_something(steps):
+                found.setdefault("".join(it if it in RESTARTS else "-" for it in steps), []).append("".join(steps))
+        return found
+
+    def play_all(self, scenes: List[List[str]]) -> None:
+        for it in scenes:
+            self.play(it)
+
+    def play(self, orders: List[str]) -> None:
         scene = Scene(self.place.conninfo, orders)
         try:
             for step in range(self.most):
@@ -115,23 +162,26 @@ class Orders(unittest.TestCase):
         """Each line that was accepted stands in the log once, under its number; each reply is that of its line; each other one was refused."""
         log = scene.logs[order]
         self.assertEqual([it[0] for it in log], list(range(1, len(log) + 1)), order)
+        self.assertEqual([it[4] for it in log], [b'{"ok":%d}' % it for it in range(1, len(log) + 1)], order)
         sent = {(client, number): line for (name, client, number), line in scene.sent.items() if name == order}
         self.assertEqual({(it[1], it[2]): it[3] for it in log}, {key: it for key, it in sent.items() if changes([it])}, order)
         for client in scene.ids:
             mine = [it[2] for it in log if it[1] == client]
             self.assertEqual(mine, sorted(set(mine)), order)
         recorded = {(it[1], it[2]): it[4] for it in log}
-        for (name, client, number), reply in scene.taken.items():
-            if name == order:
-                self.assertEqual(reply, recorded.get((client, number), EMPTY), order)
+        taken = {(client, number): it for (name, client, number), it in scene.taken.items() if name == order}
+        self.assertEqual(taken, {key: recorded.get(key, EMPTY) for key in taken}, order)
+        for client, restart in zip(scene.ids, "rt"):
+            if restart not in order:
+                self.assertEqual({it for it in sent if it[0] == client} - taken.keys(), set(), order)
         self.assertEqual(scene.refused[order], scene.due_refusals[order], order)
 
 
 class Scene:
-    """Documents, two clients of each, and the worker."""
+    """Documents, two clients of each, and the worker. A step at which a process is started anew is the same one for all documents."""
 
     def __init__(self, conninfo: str, orders: List[str]) -> None:
-        self.conninfo = conninfo
+        self.conninfo, self.orders = conninfo, orders
         self.ids = [uuid.uuid4(), uuid.uuid4()]
         self.clients = [connect(conninfo, client=it, timeout=120) for it in self.ids]
         self.sent: Dict[Tuple[str, uuid.UUID, int], bytes] = {}
@@ -146,16 +196,15 @@ class Scene:
         return Tenure(self.conninfo, Bounds(lease=600.0), 0, self.ends[0][0])
 
     def step(self, steps: List[Tuple[str, str]]) -> None:
-        if any(it == "r" for _, it in steps):
-            # (each restart is of the whole process, so it is one for all documents that have it now)
-            self.restart({name for name, it in steps if it == "r"})
+        kinds = {it for _, it in steps}
+        if kinds & set(RESTARTS):
+            assert len(kinds) == 1
+            {"r": self.restart_a, "t": self.restart_b, "s": self.replace}[kinds.pop()]()
+            return
         for name, it in steps:
             if it in "abqo":
                 self.send(name, it)
         self.serve([name for name, it in steps if it == "w"])
-        replaced = [name for name, it in steps if it == "s"]
-        if replaced:
-            self.replace(replaced)
 
     def send(self, name: str, kind: str) -> None:
         client = self.clients[kind == "b"]
@@ -178,37 +227,55 @@ class Scene:
             self.refused[name] += 1
         document._waiting.update(waiting)
 
-    def restart(self, names: Set[str]) -> None:
-        """The first client is another process now, which sends its last line of some documents again if it has no reply."""
+    def restart_a(self) -> None:
         self.take(only=self.clients[0])
-        self.clients[0].close()
-        self.clients[0] = connect(self.conninfo, client=self.ids[0], timeout=120)
-        for name in names:
-            numbers = [number for (it, client, number) in self.sent if it == name and client == self.ids[0]]
-            if numbers and (name, self.ids[0], max(numbers)) not in self.taken:
-                document = self.clients[0].document(name)
-                document._next = max(numbers)
-                document.post([self.sent[name, self.ids[0], max(numbers)]])
+        self.restart(0)
+
+    def restart_b(self) -> None:
+        self.restart(1)
+
+    def restart(self, at: int) -> None:
+        """A client is another process now, which sends its last line of each document again if it has no reply."""
+        self.clients[at].close()
+        self.clients[at] = connect(self.conninfo, client=self.ids[at], timeout=120)
+        last: Dict[str, int] = {}
+        for name, client, number in self.sent:
+            if client == self.ids[at]:
+                last[name] = max(number, last.get(name, 0))
+        for name, number in last.items():
+            if (name, self.ids[at], number) not in self.taken:
+                document = self.clients[at].document(name)
+                document._next = number
+                document.post([self.sent[name, self.ids[at], number]])
+
+    def waiting(self, names: List[str]) -> List[int]:
+        """Returns those of the documents for which lines wait."""
+        words = "select distinct r.document from huckleport.requests r join huckleport.documents d on d.id = r.document where d.name = any (%s)"
+        return [it for it, in self.worker.connection.execute(words, (names,))]
+
+    def claim(self, documents: List[int]) -> None:
+        for at in range(0, len(documents), CLAIM):
+            self.worker._claim(documents[at : at + CLAIM])
 
     def serve(self, names: List[str]) -> None:
         """Has the worker answer what waits for these documents."""
-        ids = [self.clients[1].document(it).id for it in names]
-        words = "select distinct document from huckleport.requests where document = any (%s)"
-        while waiting := [it for it, in self.worker.connection.execute(words, (ids,))]:
+        while waiting := self.waiting(names):
             self.worker.due.update(dict.fromkeys(set(waiting) & self.worker.held.keys()))
-            self.worker._claim([it for it in waiting if it not in self.worker.held][:64])
-            self.worker._replay()
+            self.claim([it for it in waiting if it not in self.worker.held])
+            while self.worker._replay():
+                pass
             self.worker._serve()
 
-    def replace(self, names: List[str]) -> None:
-        """The worker's process is lost after it has claimed these, and another one begins."""
-        ids = [self.clients[1].document(it).id for it in names]
-        self.worker._claim(ids[:64])
+    def replace(self) -> None:
+        """The worker's process is lost after it has claimed all for which lines wait, and another one begins."""
+        due = [it for it in self.waiting(self.orders) if it not in self.worker.held]
+        self.claim(due)
+        assert set(due) <= self.worker.held.keys()
         gone, self.worker = self.worker, self.new_worker()
         self.worker.connection.execute("update huckleport.workers set until = clock_timestamp() - interval '1 s' where id = %s", (gone.id,))
         gone.connection.close()
         gone.close()
-        self.worker.connection.execute("update huckleport.documents set not_before = null, attempts = 0")
+        self.worker.connection.execute("update huckleport.documents set not_before = null, attempts = 0 where name = any (%s)", (self.orders,))
 
     def take(self, only: Optional[Client] = None) -> None:
         """The clients take the replies that are there."""
@@ -220,11 +287,11 @@ class Scene:
 
     def read(self) -> None:
         """Reads the logs."""
-        names = dict(self.worker.connection.execute("select id, name from huckleport.documents").fetchall())
-        self.logs: Dict[str, List[Any]] = {it: [] for it in names.values()}
-        words = "select document, number, client, request, line, reply from huckleport.lines order by document, number"
-        for document, *row in self.worker.connection.execute(words, binary=True):
-            self.logs[names[document]].append(row)
+        self.logs: Dict[str, List[Any]] = {it: [] for it in self.orders}
+        words = """select d.name, l.number, l.client, l.request, l.line, l.reply from huckleport.lines l join huckleport.documents d on d.id = l.document
+            where d.name = any (%s) order by l.document, l.number"""
+        for name, *row in self.worker.connection.execute(words, (self.orders,), binary=True):
+            self.logs[name].append(row)
 
     def close(self) -> None:
         for it in self.clients:

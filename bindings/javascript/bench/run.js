@@ -65,10 +65,11 @@ const THREAD = "/proc/thread-self/schedstat";
  * clock, and so does the engine's collector, which marks what the other has left. Where the system does not say it, that of the process.
  */
 function taken() {
+  // (the system adds up a thread's time at its ticks, and when it is asked for the process's)
+  const { user, system } = process.cpuUsage();
   try {
     return Number(readFileSync(THREAD, "utf8").split(" ")[0]) / 1000;
   } catch {
-    const { user, system } = process.cpuUsage();
     return user + system;
   }
 }

@@ -125,7 +125,8 @@ export class FollowingIs {
   }
 }
 
-function after(it, top) {
+/** Returns the node behind another one in tree order, below a root. */
+export function after(it, top) {
   const first = it.firstChild();
   if (first !== null) return first;
   for (let at = it; at !== top; at = at.parent()) {

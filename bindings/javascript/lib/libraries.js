@@ -4,6 +4,9 @@
  */
 import { builtin, here, isInNode } from "./host.js";
 
+/** Says that a library is not there. */
+export class Missing extends Error {}
+
 const found = new Map();
 const createRequire = isInNode ? builtin("node:module").createRequire : null;
 
@@ -29,7 +32,7 @@ export function wanted(name, what) {
   if (found.has(name)) return found.get(name);
   const { library, fault } = sought(name);
   const where = createRequire ? `npm install ${name}, or Debian's node-${name} with NODE_PATH=/usr/share/nodejs` : `provide({ "${name}": .. }) hands it in`;
-  if (!library) throw new Error(`${what} needs the package ${name}, which was not found (${where})`, { cause: fault });
+  if (!library) throw new Missing(`${what} needs the package ${name}, which was not found (${where})`, { cause: fault });
   found.set(name, library);
   return library;
 }

@@ -25,6 +25,7 @@ import {
   numberIn,
   numberInOrNone,
   numberOf,
+  objectOf,
   parentOf,
   previousOf,
   replaced,
@@ -109,12 +110,6 @@ function readText(its) {
   its.fresh();
   if (text.length <= LONGEST_KEPT) its.values = text;
   return text;
-}
-
-/** The value of a node as the standard has it: its data, or null. */
-function nodeValue(node) {
-  const its = itsOf(node);
-  return isOfData(its.kind) ? textOf(its) : null;
 }
 
 /** Says that the data of a node has changed. */
@@ -566,19 +561,19 @@ export const Node = known({
     baseURI: (node) => isOfDocument(node).url,
     isConnected: (node) => kindOf(rootOf(node)) === DOCUMENT,
     ownerDocument: (node) => (kindOf(node) === DOCUMENT ? null : documentOf(node)),
-    parentNode: parentOf,
+    parentNode: { read: (its) => objectOf(its.parent()) },
     parentElement: (node) => {
       const parent = parentOf(node);
       return parent && kindOf(parent) === ELEMENT ? parent : null;
     },
     childNodes,
-    firstChild: firstChildOf,
-    lastChild: lastChildOf,
-    previousSibling: previousOf,
-    nextSibling: nextOf,
+    firstChild: { read: (its) => objectOf(its.firstChild()) },
+    lastChild: { read: (its) => objectOf(its.lastChild()) },
+    previousSibling: { read: (its) => objectOf(its.previousSibling()) },
+    nextSibling: { read: (its) => objectOf(its.nextSibling()) },
     nodeValue: {
       type: "DOMString?",
-      get: nodeValue,
+      read: (its) => (isOfData(its.kind) ? textOf(its) : null),
       set: (node, text) => void (hasData(node) && setData(node, text ?? "")),
     },
     textContent: { type: "DOMString?", get: textContent, set: setTextContent },

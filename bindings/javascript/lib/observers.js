@@ -197,7 +197,7 @@ export const MutationObserver = known({
   is: (it) => observerOf(it) !== undefined,
   construct: [["Function"], (realm, callback) => makeThing(realm, "MutationObserver", new ObserverIs(realm, callback))],
   operations: {
-    observe: [["Node", "MutationObserverInit = {}"], observe],
+    observe: [["Node or other", "MutationObserverInit = {}"], observe],
     disconnect: [[], disconnect],
     takeRecords: [[], takeRecords],
   },

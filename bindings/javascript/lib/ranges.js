@@ -13,6 +13,7 @@ import {
   numberOf,
   parentOf,
   realmOf,
+  seenOf,
   sessionOf,
   settle,
   thingOf,
@@ -208,15 +209,16 @@ function surroundContents(range, parent) {
   for (const it of children) session.leave(it);
 }
 
-const SET = ["Node", "unsigned long"];
+const NODE = ["Node or other"];
+const SET = [...NODE, "unsigned long"];
 
 export const AbstractRange = known({
   name: "AbstractRange",
   is: (it) => endsOf(it) !== undefined,
   attributes: {
-    startContainer: (it) => container(it, "start"),
+    startContainer: (it) => seenOf(container(it, "start")),
     startOffset: (it) => offset(it, 1),
-    endContainer: (it) => container(it, "end"),
+    endContainer: (it) => seenOf(container(it, "end")),
     endOffset: (it) => offset(it, 3),
     collapsed,
   },
@@ -246,17 +248,17 @@ export const Range = known({
   is: (it) => rangeOf(it) !== undefined,
   construct: [[], (realm) => createRange(realm.document)],
   constants: { START_TO_START: 0, START_TO_END: 1, END_TO_END: 2, END_TO_START: 3 },
-  attributes: { commonAncestorContainer: commonAncestor },
+  attributes: { commonAncestorContainer: (it) => seenOf(commonAncestor(it)) },
   operations: {
     setStart: [SET, setting("hp_set_start")],
     setEnd: [SET, setting("hp_set_end")],
-    setStartBefore: [["Node"], setting("hp_set_start_before")],
-    setStartAfter: [["Node"], setting("hp_set_start_after")],
-    setEndBefore: [["Node"], setting("hp_set_end_before")],
-    setEndAfter: [["Node"], setting("hp_set_end_after")],
+    setStartBefore: [NODE, setting("hp_set_start_before")],
+    setStartAfter: [NODE, setting("hp_set_start_after")],
+    setEndBefore: [NODE, setting("hp_set_end_before")],
+    setEndAfter: [NODE, setting("hp_set_end_after")],
     collapse: [["boolean = false"], collapse],
-    selectNode: [["Node"], setting("hp_select_node")],
-    selectNodeContents: [["Node"], setting("hp_select_node_contents")],
+    selectNode: [NODE, setting("hp_select_node")],
+    selectNodeContents: [NODE, setting("hp_select_node_contents")],
     compareBoundaryPoints: [
       ["unsigned short", "Range"],
       (range, how, source) => {
@@ -280,7 +282,7 @@ export const Range = known({
         return ordered(asked(range, "hp_compare_point", numberOf(node), at));
       },
     ],
-    intersectsNode: [["Node"], (range, node) => isBeside(range, node) && asked(range, "hp_intersects_node", numberOf(node)) === 1],
+    intersectsNode: [NODE, (range, node) => isBeside(range, node) && asked(range, "hp_intersects_node", numberOf(node)) === 1],
     toString: [[], text],
   },
 });

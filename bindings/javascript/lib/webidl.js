@@ -2,10 +2,12 @@
  * Interfaces from tables, as Web IDL binds them: conversions of what comes in, brands, argument counts, constants, constructors.
  *
  * An interface is an object with `name`, `parent`, `is` (its brand), and `constants`, `attributes`, `operations`, `construct`, `hidden` (names that a `with`
- * does not see). An attribute is a getter or `{ type, get, set }`; an operation is a list of its arguments' types and a function of the object and
- * what came in. The types are those of Web IDL in its words; `= value` gives what stands for an absent one, and `...` takes all that come.
+ * does not see). An attribute is a getter or `{ type, get, set }`, with `read` in place of `get` if the state of a node says it; an operation is a list of
+ * its arguments' types and a function of the object and the arguments. The types are those of Web IDL in its words; `= value` gives what stands for an absent
+ * one, and `...` takes all that come.
  */
 import { native, Refusal } from "./core.js";
+import { stateOf } from "./wrappers.js";
 
 /** Refuses what is of the wrong type: the realm's own TypeError. */
 export function refuseType(message) {
@@ -76,9 +78,13 @@ export function dictionary(members) {
 const HIERARCHY_REQUEST_ERROR = 3;
 const NOT_FOUND_ERROR = 8;
 let isOtherNode = () => false;
+let standInOf = null;
 
-/** Says which objects are Nodes that the core does not have. */
-export const otherNodes = (is) => void (isOtherNode = is);
+/** Says which objects are Nodes that the core does not have, and which node of the core is in their place in ranges and for observers. */
+export function otherNodes(is, standIn) {
+  isOtherNode = is;
+  standInOf = standIn;
+}
 
 function nodeOf(value, otherwise, status = HIERARCHY_REQUEST_ERROR) {
   if (brands.get("Node")(value)) return value;
@@ -92,6 +98,7 @@ const orNull = (value) => (value === null || value === undefined ? null : noNode
 const NODES = {
   Node: (value) => nodeOf(value, noNode),
   "Node?": (value) => nodeOf(value, orNull),
+  "Node or other": (value) => (isOtherNode(value) ? standInOf(value) : nodeOf(value, noNode)),
   "(Node or DOMString)": (value) => nodeOf(value, PLAIN.DOMString),
   // (a node that has to be a child: any other is not found)
   "child Node": (value) => nodeOf(value, noNode, NOT_FOUND_ERROR),
@@ -216,6 +223,22 @@ function getter(realm, test, get, name) {
   return named(FORMS[0](realm, test, get).operation, `get ${name}`, 0);
 }
 
+/** A getter that is called most: the brand and the state of a node are looked up at once. */
+function reader(realm, read, name) {
+  const made = {
+    operation() {
+      const its = stateOf(this);
+      if (its === null) throw realm.wrongThis();
+      try {
+        return read(its);
+      } catch (fault) {
+        throw realm.thrown(fault);
+      }
+    },
+  };
+  return named(made.operation, `get ${name}`, 0);
+}
+
 function setter(realm, test, type, set, name) {
   return named(FORMS[1](realm, test, set, 1, [argument(type)]).operation, `set ${name}`, 1);
 }
@@ -230,9 +253,9 @@ function addConstants(table, made) {
 
 function addAttributes(realm, table, prototype) {
   for (const [name, its] of Object.entries(table.attributes ?? {})) {
-    const { get, set, type } = typeof its === "function" ? { get: its } : its;
+    const { get, read, set, type } = typeof its === "function" ? { get: its } : its;
     Object.defineProperty(prototype, name, {
-      get: getter(realm, table.is, get, name),
+      get: read ? reader(realm, read, name) : getter(realm, table.is, get, name),
       set: set && setter(realm, table.is, type, set, name),
       enumerable: true,
       configurable: true,

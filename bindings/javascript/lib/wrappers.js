@@ -14,7 +14,7 @@
 import { check, DOCUMENT, ELEMENT, FRAGMENT, native, NONE, OK, out, Refusal, Session, soon, words } from "./core.js";
 import { elementByNumber } from "./names.js";
 
-export let isNode, itsOf;
+export let isNode, itsOf, stateOf;
 
 const { hp_links } = native;
 const PARENT_AT = 2;
@@ -455,28 +455,32 @@ const ROW = 5;
 
 /** Makes objects of rows (number, kind, depth, name, count of children), and links them; the first is answered. */
 function linked(parent, from, count, isWhole) {
-  const open = [parent];
-  const last = [];
+  let last = null;
+  let level = -1;
   for (let at = from; at < from + count; at += ROW) {
     const depth = words[at + 2];
-    close(open, last, depth + 1);
-    const its = open[depth].adopted(words[at], words[at + 1], words[at + 3], words[at + 4]);
-    if (last.length > depth) last[depth].link(its);
+    last = up(last, level, depth);
+    const above = depth > level ? (last ?? parent) : last.above;
+    const its = above.adopted(words[at], words[at + 1], words[at + 3], words[at + 4]);
+    if (depth <= level) last.link(its);
     else if (depth > 0) its.lead();
-    open[depth + 1] = last[depth] = its;
+    last = its;
+    level = depth;
   }
-  frontier = open.at(-1);
+  frontier = last;
   const first = parent.child(words[from]);
-  if (isWhole) close(open, last, 0);
+  if (isWhole) up(last, level, 0).trail();
   return first;
 }
 
-/** Keeps that those which stand last at some depth and below are the last children. */
-function close(open, last, depth) {
-  while (last.length > depth) {
-    last.pop().trail();
-    open.pop();
+/** Goes from a node at a level up to one at a depth, and keeps that each which is left is a last child. */
+function up(its, level, depth) {
+  let it = its;
+  for (let at = level; at > depth; at--) {
+    it.trail();
+    it = it.above;
   }
+  return it;
 }
 
 Session.settle = (its) => {
@@ -484,11 +488,17 @@ Session.settle = (its) => {
   if ((its.state & CHILD) === 0) its.know();
 };
 
-/** An object of a node, of whatever interface: a class of a realm stands between. */
-export class Wrapper {
+/** Returns the object that is given, or a new one. */
+function Given(object) {
+  return object;
+}
+
+/** An object of a node, of whatever interface: a class of a realm stands between. An object that is given becomes that of the node. */
+export class Wrapper extends Given {
   #its;
 
-  constructor(its) {
+  constructor(its, object) {
+    super(object);
     this.#its = its;
     its.object = this;
   }
@@ -496,16 +506,20 @@ export class Wrapper {
   static {
     isNode = (it) => typeof it === "object" && it !== null && #its in it;
     itsOf = (node) => node.#its;
+    stateOf = (it) => (typeof it === "object" && it !== null && #its in it ? it.#its : null);
   }
 }
 
-const objectOf = (its) => (its === null ? null : its.object);
+export const objectOf = (its) => (its === null ? null : its.object);
 
 export const sessionOf = (node) => itsOf(node).session;
 export const numberOf = (node) => itsOf(node).number;
 export const kindOf = (node) => itsOf(node).kind;
 export const realmOf = (node) => itsOf(node).realm;
 export const keptOf = (node) => (itsOf(node).kept ??= {});
+
+/** The node that a program sees in place of one: another one if that is a stand-in. */
+export const seenOf = (node) => itsOf(node).kept?.standsFor ?? node;
 
 /** The parent's wrapper, or null. */
 export const parentOf = (node) => objectOf(itsOf(node).parent());

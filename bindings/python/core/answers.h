@@ -438,17 +438,16 @@ static PyObject *record_made(const Records *of, const Noted *it, PyObject *sessi
     return named(calls, KIND_MUTATION_RECORD, plain_tuple(parts, 8));
 }
 
-static PyObject *records_made(const Records *of, PyObject *session, Calls *calls)
+/* Puts the records into a list, from an index on. */
+static bool records_put(PyObject *to, Py_ssize_t from, const Records *of, PyObject *session, Calls *calls)
 {
-    PyObject *found = PyList_New((Py_ssize_t)of->count);
-    for (size_t at = 0; found && at < of->count; at++) {
+    for (size_t at = 0; at < of->count; at++) {
         PyObject *record = record_made(of, &of->records[at], session, calls);
         if (!record)
-            Py_CLEAR(found);
-        else
-            PyList_SetItem(found, (Py_ssize_t)at, record);
+            return false;
+        PyList_SetItem(to, from + (Py_ssize_t)at, record);
     }
-    return found;
+    return true;
 }
 
 /* Copies the records of the last answer; or nothing, with an exception. */
@@ -456,41 +455,145 @@ static bool records_taken(Records *to, Calls *calls)
 {
     size_t count = 0;
     hp_count(&calls->session, &count);
-    *to = (Records){ NULL, 0, { NULL, NULL, 0, 0 } };
     if (records_copy(to, &calls->session, 0, count) && numbers_ask(&to->nodes, calls))
         return true;
     records_drop(to);
+    *to = (Records){ NULL, 0, { NULL, NULL, 0, 0 } };
     return false;
 }
 
-/* Memory that is kept back until some is wanting: then it goes, and what has failed is tried once more. */
-enum { KEPT_BACK = 1 << 16 };
+/* ---- records that were taken of an observer, of whom the library has them no more */
 
-static bool may_try_again(void **kept_back)
+/* They stay with the session until somebody has them, also if memory is wanting meanwhile. No node is let go until then. */
+typedef struct Taken {
+    uint32_t observer;
+    Records records;
+    struct Taken *next;
+} Taken;
+
+/* Notices that are left for later, and have no room in the session's list of those. */
+typedef struct Left {
+    PyObject *notices;
+    struct Left *next;
+} Left;
+
+/* Room for what is to be taken of an observer; or null, with an exception. */
+static Taken *taken_room(uint32_t observer)
 {
-    if (!*kept_back || !PyErr_ExceptionMatches(PyExc_MemoryError))
-        return false;
-    PyErr_Clear();
-    PyMem_Free(*kept_back);
-    *kept_back = NULL;
-    return true;
+    Taken *found = zeroed(1, sizeof(Taken));
+    if (found)
+        found->observer = observer;
+    else
+        PyErr_NoMemory();
+    return found;
 }
 
-/* The records of the last answer. They were taken and are told by nobody else, so what fails is tried again: the answer stays while it is
- * copied, since no code of Python runs, and then there is the copy. */
-static PyObject *records_answer(PyObject *session, Calls *calls, void **kept_back)
+static void taken_end(Calls *calls, Taken *it)
 {
-    Records records;
-    PyObject *found = NULL;
-    bool is_taken = records_taken(&records, calls) || (may_try_again(kept_back) && records_taken(&records, calls));
-    if (!is_taken)
-        return NULL;
+    while (it) {
+        Taken *next = it->next;
+        records_drop(&it->records);
+        PyMem_Free(it);
+        calls->making--;
+        it = next;
+    }
+}
+
+/* Takes the records of the last answer down as those of an observer. They are copied before the next call. */
+static void take_down(Calls *calls, Taken *room)
+{
+    size_t count = 0;
+    Taken **to = &calls->taken;
+    if (hp_count(&calls->session, &count) != HP_OK || !count) {
+        PyMem_Free(room);
+        return;
+    }
+    while (*to)
+        to = &(*to)->next;
+    *to = room;
     calls->making++;
-    do
-        found = records_made(&records, session, calls);
-    while (!found && may_try_again(kept_back));
-    calls->making--;
-    records_drop(&records);
+    calls->busy = HAS_ANSWER;
+}
+
+static bool is_answer_copied(Calls *calls)
+{
+    Taken *last = calls->taken;
+    while (last && last->next)
+        last = last->next;
+    if (calls->busy == HAS_ANSWER && records_taken(&last->records, calls))
+        calls->busy = FREE;
+    return calls->busy == FREE;
+}
+
+/* Takes out what was taken of an observer, in its order. */
+static Taken *taken_out_of(Calls *calls, uint32_t observer)
+{
+    Taken *found = NULL, **end = &found, **at = &calls->taken;
+    while (*at) {
+        Taken *it = *at;
+        if (it->observer != observer) {
+            at = &it->next;
+            continue;
+        }
+        *at = it->next;
+        it->next = NULL;
+        *end = it;
+        end = &it->next;
+    }
+    return found;
+}
+
+/* Puts back what was taken of an observer. */
+static void taken_back(Calls *calls, Taken *it)
+{
+    Taken **end = &it;
+    while (*end)
+        end = &(*end)->next;
+    *end = calls->taken;
+    calls->taken = it;
+}
+
+/* Whether records of an observer were taken. */
+static bool has_taken(const Calls *calls, uint32_t observer)
+{
+    const Taken *it = calls->taken;
+    while (it && it->observer != observer)
+        it = it->next;
+    return it != NULL;
+}
+
+/* Forgets what was taken of an observer. */
+static void forget_taken(Calls *calls, uint32_t observer)
+{
+    taken_end(calls, taken_out_of(calls, observer));
+}
+
+static void drop_taken(Calls *calls)
+{
+    taken_end(calls, calls->taken);
+    calls->taken = NULL;
+    calls->busy = calls->busy == HAS_ANSWER ? FREE : calls->busy;
+    while (calls->left) {
+        Left *it = calls->left;
+        calls->left = it->next;
+        Py_DECREF(it->notices);
+        PyMem_Free(it);
+    }
+}
+
+/* A list of records that were taken. */
+static PyObject *taken_made(const Taken *taken, PyObject *session, Calls *calls)
+{
+    Py_ssize_t count = 0;
+    for (const Taken *it = taken; it; it = it->next)
+        count += (Py_ssize_t)it->records.count;
+    PyObject *found = PyList_New(count);
+    count = 0;
+    for (const Taken *it = taken; found && it; it = it->next) {
+        if (!records_put(found, count, &it->records, session, calls))
+            Py_CLEAR(found);
+        count += (Py_ssize_t)it->records.count;
+    }
     return found;
 }
 
@@ -510,19 +613,22 @@ static PyObject *observer_of(uint32_t number, PyObject *session, Calls *calls)
     return found;
 }
 
-/* Puts an observer and the records of the last answer in the place that is free at the end of a list. */
-static bool put_notice(PyObject *to, uint32_t number, PyObject *session, Calls *calls, void **kept_back)
+/* Puts an observer and its records in the place that is free at the end of a list; or leaves all as it was, with an exception if memory is
+ * wanting. */
+static bool put_notice(PyObject *to, uint32_t number, PyObject *session, Calls *calls)
 {
-    PyObject *notice = PyTuple_New(2);
-    PyObject *records = notice ? records_answer(session, calls, kept_back) : NULL;
+    PyObject *notice = is_answer_copied(calls) ? PyTuple_New(2) : NULL;
+    Taken *taken = notice ? taken_out_of(calls, number) : NULL;
+    PyObject *records = taken ? taken_made(taken, session, calls) : NULL;
     PyObject *observer = records ? observer_of(number, session, calls) : NULL;
-    if (!observer && records && may_try_again(kept_back))
-        observer = observer_of(number, session, calls);
     if (!observer) {
+        if (taken)
+            taken_back(calls, taken);
         Py_XDECREF(records);
         Py_XDECREF(notice);
         return false;
     }
+    taken_end(calls, taken);
     PyTuple_SetItem(notice, 0, observer);
     PyTuple_SetItem(notice, 1, records);
     return PyList_SetItem(to, PyList_Size(to) - 1, notice) == 0;
@@ -580,7 +686,6 @@ static Told call_back(PyObject *notice)
 typedef struct {
     PyObject *session, *told, *kept, *faults;
     Calls *calls;
-    void *kept_back;
     bool is_short;
 } Turns;
 
@@ -628,46 +733,50 @@ static void tell(Turns *it, PyObject *notice)
     PyList_SetItem(it->kept, PyList_Size(it->kept) - 1, notice);
 }
 
-/* Whether an observer has records now that it is its turn; they are the last answer then. One that was released has none, and is no fault. */
-static bool has_records(uint32_t observer, Calls *calls)
+/* Takes the records that an observer has now that it is its turn. Returns whether there are any. One that was released has none, and is no fault. */
+static bool has_records(Calls *calls, Taken *room)
 {
-    size_t count = 0;
+    uint32_t observer = room->observer;
     uint8_t status = hp_tell_observer(&calls->session, observer);
     if (status == HP_OK)
-        return hp_count(&calls->session, &count) == HP_OK && count > 0;
-    PyObject *words = status == HP_NO_SUCH_OBJECT ? NULL : Py_BuildValue("(k)", (unsigned long)observer);
+        take_down(calls, room);
+    else
+        PyMem_Free(room);
+    PyObject *words = status && status != HP_NO_SUCH_OBJECT ? Py_BuildValue("(k)", (unsigned long)observer) : NULL;
     if (words)
         refused(status, "tell_observer", (PyObject *)calls, words);
     Py_XDECREF(words);
-    return false;
+    return has_taken(calls, observer);
 }
 
 /* Takes the records of an observer, for which there are places, and tells them. */
-static void turn_taken(Turns *it, uint32_t observer)
+static void turn_taken(Turns *it, Taken *room)
 {
-    bool has_some = has_records(observer, it->calls);
-    if (has_some && put_notice(it->told, observer, it->session, it->calls, &it->kept_back)) {
+    uint32_t observer = room->observer;
+    if (has_records(it->calls, room) && put_notice(it->told, observer, it->session, it->calls)) {
         PyObject *notice = PyList_GetItem(it->told, PyList_Size(it->told) - 1);
         Py_INCREF(notice);
         tell(it, notice);
         Py_DECREF(notice);
         return;
     }
-    it->is_short = has_some;
+    it->is_short = has_taken(it->calls, observer);
     if (PyErr_Occurred())
         take_fault(it);
     end_place(it->told);
     end_place(it->kept);
 }
 
-/* The turn of an observer, once there is a place for what it is told among that and among what is kept. */
+/* The turn of an observer, once there is room for its records, and a place for them among what is told and among what is kept. */
 static void take_turn(Turns *it, uint32_t observer)
 {
-    bool has_one = has_place(it->told), has_both = has_one && has_place(it->kept);
+    Taken *room = taken_room(observer);
+    bool has_one = room && has_place(it->told), has_both = has_one && has_place(it->kept);
     if (has_both) {
-        turn_taken(it, observer);
+        turn_taken(it, room);
         return;
     }
+    PyMem_Free(room);
     it->is_short = true;
     take_fault(it);
     if (has_one)
@@ -693,17 +802,48 @@ static void tell_all(Turns *it, Numbers *observers)
     *observers = (Numbers){ NULL, NULL, 0, 0 };
 }
 
-/* Where a callback raised, what is kept is left for later; else what was left before is told with the rest. */
-static bool leave(PyObject *told, PyObject *left, PyObject *kept, bool has_raised)
+/* Adds notices to those that are left for later; for want of memory the session has them beside. */
+static void leave(Calls *calls, PyObject *left, PyObject *kept, Left *room)
 {
     Py_ssize_t end = PyList_Size(left);
-    if (has_raised && PyList_SetSlice(left, end, end, kept) < 0) {
-        PyErr_Clear();
-        return PyList_SetSlice(left, end, end, kept) == 0;
+    if (PyList_SetSlice(left, end, end, kept) == 0) {
+        PyMem_Free(room);
+        return;
     }
-    if (has_raised)
+    PyErr_Clear();
+    Py_INCREF(kept);
+    *room = (Left){ kept, calls->left };
+    calls->left = room;
+}
+
+/* Puts the notices that the session has beside among those that are left for later. */
+static bool has_no_left(Calls *calls, PyObject *left)
+{
+    while (calls->left) {
+        Left *it = calls->left;
+        Py_ssize_t end = PyList_Size(left);
+        if (PyList_SetSlice(left, end, end, it->notices) < 0)
+            return false;
+        calls->left = it->next;
+        Py_DECREF(it->notices);
+        PyMem_Free(it);
+    }
+    return true;
+}
+
+/* Ends the turns. If a callback raised or memory was wanting, what is kept is left for later; otherwise what was left before is told with the
+ * rest. */
+static bool turns_end(Turns *it, PyObject *left, Left *room)
+{
+    bool has_raised = PyList_Size(it->faults) > 0 || it->is_short;
+    if (!has_raised && PyList_SetSlice(it->told, 0, 0, left) == 0) {
+        PyMem_Free(room);
+        return PyList_SetSlice(left, 0, PyList_Size(left), NULL) == 0;
+    }
+    leave(it->calls, left, it->kept, room);
+    if (has_raised && PyList_Size(it->faults) > 0)
         return true;
-    return PyList_SetSlice(told, 0, 0, left) == 0 && PyList_SetSlice(left, 0, PyList_Size(left), NULL) == 0;
+    return PyErr_NoMemory() != NULL;
 }
 
 #endif

@@ -4,7 +4,7 @@ enum { AT_HP_ROW, AT_HP_NOTICE, AT_HP_RECORD, AT_HP_ENDS, AT_HP_STATIC_ENDS, AT_
 typedef char structs_fit[STRUCTS_MADE <= STRUCTS ? 1 : -1];
 
 static PyStructSequence_Field hp_row_fields[] = { { "depth", NULL }, { "node", NULL }, { "type", NULL }, { "attributes", NULL }, { NULL, NULL } };
-static PyStructSequence_Desc hp_row_form = { "huckleport._core.hp_row", "A row of a tree: how deep the node stands below the one that was asked for, its number, the standard's number of its kind (`nodeType`), and how many attributes it has.", hp_row_fields, 4 };
+static PyStructSequence_Desc hp_row_form = { "huckleport._core.hp_row", "A row of a tree: the node's depth below the printed root, its number, the standard's number of its kind (`nodeType`), and the number of its attributes.", hp_row_fields, 4 };
 
 static PyObject *hp_row_from(const Calls *calls, const hp_row *it)
 {
@@ -19,7 +19,7 @@ static PyObject *hp_row_from(const Calls *calls, const hp_row *it)
 }
 
 static PyStructSequence_Field hp_notice_fields[] = { { "observer", NULL }, { "records", NULL }, { NULL, NULL } };
-static PyStructSequence_Desc hp_notice_form = { "huckleport._core.hp_notice", "What an observer is told: its number, and how many records.", hp_notice_fields, 2 };
+static PyStructSequence_Desc hp_notice_form = { "huckleport._core.hp_notice", "A notice: the number of the observer, and the number of its records.", hp_notice_fields, 2 };
 
 static PyObject *hp_notice_from(const Calls *calls, const hp_notice *it)
 {
@@ -32,7 +32,7 @@ static PyObject *hp_notice_from(const Calls *calls, const hp_notice *it)
 }
 
 static PyStructSequence_Field hp_record_fields[] = { { "type", NULL }, { "target", NULL }, { "added", NULL }, { "removed", NULL }, { "previous", NULL }, { "next", NULL }, { NULL, NULL } };
-static PyStructSequence_Desc hp_record_form = { "huckleport._core.hp_record", "A record: its type (`HP_ATTRIBUTES`, `HP_CHARACTER_DATA` or `HP_CHILD_LIST`), its target, how many nodes were added and removed, and the siblings beside them, or `HP_NONE`.", hp_record_fields, 6 };
+static PyStructSequence_Desc hp_record_form = { "huckleport._core.hp_record", "A record: its type (`HP_ATTRIBUTES`, `HP_CHARACTER_DATA` or `HP_CHILD_LIST`), its target, the numbers of added and removed nodes, and the siblings beside them, or `HP_NONE`.", hp_record_fields, 6 };
 
 static PyObject *hp_record_from(const Calls *calls, const hp_record *it)
 {
@@ -80,7 +80,7 @@ static PyObject *hp_static_ends_from(const Calls *calls, const hp_static_ends *i
 }
 
 static PyStructSequence_Field hp_iterator_at_fields[] = { { "root", NULL }, { "reference", NULL }, { "is_before", NULL }, { NULL, NULL } };
-static PyStructSequence_Desc hp_iterator_at_form = { "huckleport._core.hp_iterator_at", "The root and the reference of an iterator, and whether it stands before the reference: 0 or 1.", hp_iterator_at_fields, 3 };
+static PyStructSequence_Desc hp_iterator_at_form = { "huckleport._core.hp_iterator_at", "The root and the reference of an iterator, and whether its pointer is before the reference: 0 or 1.", hp_iterator_at_fields, 3 };
 
 static PyObject *hp_iterator_at_from(const Calls *calls, const hp_iterator_at *it)
 {
@@ -107,7 +107,7 @@ static PyObject *hp_walker_at_from(const Calls *calls, const hp_walker_at *it)
 }
 
 static PyStructSequence_Field hp_place_fields[] = { { "document", NULL }, { "kind", NULL }, { "next", NULL }, { "parent", NULL }, { "previous", NULL }, { NULL, NULL } };
-static PyStructSequence_Desc hp_place_form = { "huckleport._core.hp_place", "The node document, the kind by the standard's number (`nodeType`), and the nodes beside and above, or `HP_NONE`.", hp_place_fields, 5 };
+static PyStructSequence_Desc hp_place_form = { "huckleport._core.hp_place", "The node document, the kind by the standard's number (`nodeType`), and the siblings and the parent, or `HP_NONE`.", hp_place_fields, 5 };
 
 static PyObject *hp_place_from(const Calls *calls, const hp_place *it)
 {
@@ -123,7 +123,7 @@ static PyObject *hp_place_from(const Calls *calls, const hp_place *it)
 }
 
 static PyStructSequence_Field hp_node_links_fields[] = { { "kind", NULL }, { "document", NULL }, { "parent", NULL }, { "previous", NULL }, { "next", NULL }, { "first_child", NULL }, { "last_child", NULL }, { "children", NULL }, { "length", NULL }, { NULL, NULL } };
-static PyStructSequence_Desc hp_node_links_form = { "huckleport._core.hp_node_links", "A node: the standard's number of its kind (`nodeType`), its node document, the nodes above, beside and below it, or `HP_NONE`, how many children it has, and its length.", hp_node_links_fields, 9 };
+static PyStructSequence_Desc hp_node_links_form = { "huckleport._core.hp_node_links", "A node: the standard's number of its kind (`nodeType`), its node document, its parent, siblings and first and last child, or `HP_NONE`, the number of its children, and its length.", hp_node_links_fields, 9 };
 
 static PyObject *hp_node_links_from(const Calls *calls, const hp_node_links *it)
 {
@@ -143,7 +143,7 @@ static PyObject *hp_node_links_from(const Calls *calls, const hp_node_links *it)
 }
 
 static PyStructSequence_Field hp_counts_fields[] = { { "nodes", NULL }, { "ranges", NULL }, { "static_ranges", NULL }, { "iterators", NULL }, { "walkers", NULL }, { "observers", NULL }, { "registrations", NULL }, { NULL, NULL } };
-static PyStructSequence_Desc hp_counts_form = { "huckleport._core.hp_counts", "How many objects of each kind there are: those that were made, and neither discarded nor released. The registrations are those of all observers, with the transient ones.", hp_counts_fields, 7 };
+static PyStructSequence_Desc hp_counts_form = { "huckleport._core.hp_counts", "The number of objects of each kind that were made, and neither discarded nor released. The registrations are those of all observers, with the transient ones.", hp_counts_fields, 7 };
 
 static PyObject *hp_counts_from(const Calls *calls, const hp_counts *it)
 {
@@ -214,7 +214,7 @@ static PyObject *call_open(PyObject *self, PyObject *words)
 
 static PyObject *call_close(PyObject *self, PyObject *words)
 {
-    if (is_busy((Calls *)self))
+    if (is_busy_closing((Calls *)self))
         return NULL;
     PyObject *found = NULL;
     if (is_counted(words, 0, "close")) {
@@ -1894,6 +1894,7 @@ static PyObject *call_disconnect(PyObject *self, PyObject *words)
         return NULL;
     PyObject *found = NULL;
     if (is_counted(words, 1, "disconnect") && uint32_of(word(words, 0), &observer)) {
+        forget_taken((Calls *)self, observer);
         uint8_t status = hp_disconnect(session_at(self), observer);
         found = status ? refused(status, "disconnect", self, words) : none();
     }
@@ -1969,6 +1970,7 @@ static PyObject *call_release_observer(PyObject *self, PyObject *words)
         return NULL;
     PyObject *found = NULL;
     if (is_counted(words, 1, "release_observer") && uint32_of(word(words, 0), &observer)) {
+        forget_taken((Calls *)self, observer);
         uint8_t status = hp_release_observer(session_at(self), observer);
         found = status ? refused(status, "release_observer", self, words) : none();
     }

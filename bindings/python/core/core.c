@@ -22,6 +22,8 @@ static PyMethodDef members_by_hand[] = {
     { "Node.child_nodes", node_child_nodes, METH_NOARGS, NULL },
     { "Node.has_child_nodes", node_has_child_nodes, METH_NOARGS, NULL },
     { "Node.text_content", node_text_content, METH_NOARGS, NULL },
+    { "Element.text", node_text, METH_NOARGS, NULL },
+    { "ChildNode.tail", node_tail, METH_NOARGS, NULL },
     { "Node.tree", node_tree, METH_NOARGS, NULL },
     { "Node.descendants", (PyCFunction)(void (*)(void))node_descendants, METH_VARARGS | METH_KEYWORDS, NULL },
     { "Node.next_siblings", node_next_siblings, METH_NOARGS, NULL },

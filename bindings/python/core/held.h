@@ -100,6 +100,18 @@ static PyObject *held_children(Calls *calls, uint32_t node, PyObject *words)
     return found;
 }
 
+/* Whether a node is another one or stands above it. */
+static PyObject *held_contains(Calls *calls, uint32_t node, PyObject *words)
+{
+    PyObject *other = PyTuple_GetItem(words, 1);
+    bool is_node = other && PyObject_TypeCheck(other, calls->state->thing_type);
+    uint32_t at = is_node ? number_of(other) : HP_NONE;
+    hp_node_links links;
+    while (at != HP_NONE && at != node)
+        at = hp_links(&calls->session, at, &links) == HP_OK ? links.parent : HP_NONE;
+    return PyBool_FromLong(at == node);
+}
+
 /* ---- the rows of a tree */
 
 static bool attributes_held(Rows *to, Copied *it, hp_session *session)
@@ -187,6 +199,7 @@ static PyObject *held_answer(Calls *calls, const char *call, PyObject *words)
         { "attribute_names", held_attribute_names },
         { "data", held_data },
         { "children", held_children },
+        { "contains", held_contains },
     };
     uint32_t node = 0;
     for (size_t at = 0; at < sizeof(all) / sizeof(*all); at++) {

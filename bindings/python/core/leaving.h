@@ -55,6 +55,9 @@ typedef struct {
     size_t length, room;
 } Order;
 
+/* What a call has to wait for: another thread in a long call, or room for a copy of the library's last answer. */
+typedef enum { FREE, IN_LONG_CALL, HAS_ANSWER } Busy;
+
 /* A session, and the objects of it that live. */
 typedef struct {
     PyObject_HEAD
@@ -75,10 +78,11 @@ typedef struct {
     size_t making;
     /* What iterators have found. */
     Waiting *waiting;
-    /* Observers whose turn was to come when memory was wanting. */
+    /* Observers whose turn was to come when memory was wanting; records that were taken of observers; and notices that are left for later. */
     Numbers untold;
-    /* Whether a thread is in a long call, which lets other threads run. */
-    bool is_busy;
+    struct Taken *taken;
+    struct Left *left;
+    Busy busy;
     /* Whether a line was answered. Lines name nodes by their numbers, so none goes by itself then. */
     bool has_lines;
 } Calls;

@@ -211,21 +211,63 @@ static PyObject *calls_read_tree(PyObject *self, PyObject *words)
     return found;
 }
 
+/* Puts the records of those notices of an observer that are left for later ahead of a list of its records. */
+static bool left_put(PyObject *to, PyObject *left, PyObject *observer)
+{
+    for (Py_ssize_t at = PyList_Size(left); at-- > 0;) {
+        PyObject *notice = PyList_GetItem(left, at);
+        if (notice != Py_None && PyTuple_GetItem(notice, 0) == observer && PyList_SetSlice(to, 0, 0, PyTuple_GetItem(notice, 1)) < 0)
+            return false;
+    }
+    return true;
+}
+
+/* Passes over the notices of an observer that are left for later, from now on. */
+static void left_end(PyObject *left, PyObject *observer)
+{
+    for (Py_ssize_t at = 0; at < PyList_Size(left); at++) {
+        PyObject *notice = PyList_GetItem(left, at);
+        if (notice != Py_None && PyTuple_GetItem(notice, 0) == observer)
+            PyList_SetItem(left, at, none());
+    }
+}
+
+/* All records of an observer, which are taken once the list of them is there. */
+static PyObject *records_answer(PyObject *observer, PyObject *left)
+{
+    Thing *it = (Thing *)observer;
+    Taken *taken = is_answer_copied(it->calls) ? taken_out_of(it->calls, it->number) : NULL;
+    PyObject *found = PyErr_Occurred() ? NULL : taken_made(taken, it->session, it->calls);
+    if (found && left_put(found, left, observer)) {
+        taken_end(it->calls, taken);
+        left_end(left, observer);
+        return found;
+    }
+    taken_back(it->calls, taken);
+    Py_XDECREF(found);
+    return NULL;
+}
+
+/* Takes the records of an observer, with those that are left for later in a list. */
 static PyObject *calls_read_records(PyObject *self, PyObject *words)
 {
     if (is_busy((Calls *)self))
         return NULL;
-    uint32_t observer = 0;
-    if (!is_counted(words, 2, "read_records") || !uint32_of(word(words, 1), &observer))
+    if (!is_counted(words, 2, "read_records") || !has_no_left((Calls *)self, word(words, 1)))
         return NULL;
-    PyObject *asked = PyTuple_GetSlice(words, 1, 2), *found = NULL;
-    void *kept_back = PyMem_Malloc(KEPT_BACK);
-    uint8_t status = asked ? hp_take_records(session_at(self), observer) : HP_OK;
-    if (asked)
-        found = status ? refused(status, "take_records", self, asked) : records_answer(word(words, 0), (Calls *)self, &kept_back);
-    PyMem_Free(kept_back);
-    Py_XDECREF(asked);
-    return found;
+    PyObject *observer = word(words, 0);
+    if (!PyObject_TypeCheck(observer, ((Calls *)self)->state->thing_type) || ((Thing *)observer)->calls != (Calls *)self)
+        return is_not_due("MutationObserver", observer) ? none() : NULL;
+    Taken *room = taken_room(number_of(observer));
+    if (!room)
+        return NULL;
+    uint8_t status = hp_take_records(session_at(self), number_of(observer));
+    if (status == HP_OK) {
+        take_down((Calls *)self, room);
+        return records_answer(observer, word(words, 1));
+    }
+    PyMem_Free(room);
+    return refused_of(status, "take_records", observer, NULL, 0);
 }
 
 /* Raises where taking the observers that wait is refused. */
@@ -238,15 +280,36 @@ static bool is_pending_answered(uint8_t status, PyObject *self)
     return status == HP_OK;
 }
 
+/* Adds the observers of which records were taken that nobody has yet, unless they are there. */
+static void push_taken(Numbers *to, const Taken *taken)
+{
+    for (; taken; taken = taken->next) {
+        size_t at = 0;
+        while (at < to->length && to->at[at] != taken->observer)
+            at++;
+        if (at == to->length)
+            to->at[to->length++] = taken->observer;
+    }
+}
+
+static size_t count_taken(const Taken *it)
+{
+    size_t count = 0;
+    for (; it; it = it->next)
+        count++;
+    return count;
+}
+
 /* Takes the observers that wait to be told, behind those that an earlier call could not tell, once there is room for all of them. */
 static bool is_pending_taken(Numbers *to, PyObject *self)
 {
     hp_session *session = session_at(self);
-    Numbers *untold = &((Calls *)self)->untold;
+    Calls *calls = (Calls *)self;
+    Numbers *untold = &calls->untold;
     size_t count = 0;
-    if (!is_pending_answered(hp_pending(session), self) || hp_count(session, &count) || !numbers_reserve(to, untold->length + count))
+    if (!is_pending_answered(hp_pending(session), self) || hp_count(session, &count))
         return false;
-    if (!is_pending_answered(hp_take_pending(session), self))
+    if (!numbers_reserve(to, untold->length + count + count_taken(calls->taken)) || !is_pending_answered(hp_take_pending(session), self))
         return false;
     to->length = untold->length;
     for (size_t at = 0; at < untold->length; at++)
@@ -255,26 +318,30 @@ static bool is_pending_taken(Numbers *to, PyObject *self)
     *untold = (Numbers){ NULL, NULL, 0, 0 };
     hp_numbers_into(session, to->at + to->length, to->room - to->length, &count);
     to->length += count;
+    push_taken(to, calls->taken);
     return true;
 }
 
 /* Tells the observers of a session in turn. A list takes what is told, another has what was left by an earlier call. Returns a list of what was
- * raised, or None. */
+ * raised. */
 static PyObject *calls_tell(PyObject *self, PyObject *words)
 {
-    if (is_busy((Calls *)self))
+    Calls *calls = (Calls *)self;
+    if (is_busy(calls))
         return NULL;
-    if (!is_counted(words, 3, "tell"))
+    if (!is_counted(words, 3, "tell") || !has_no_left(calls, word(words, 2)))
         return NULL;
     Numbers pending = { NULL, NULL, 0, 0 };
-    Turns turns = { word(words, 0), word(words, 1), PyList_New(0), PyList_New(0), (Calls *)self, PyMem_Malloc(KEPT_BACK), false };
-    bool is_done = turns.kept && turns.faults && is_pending_taken(&pending, self);
+    Left *room = PyMem_Malloc(sizeof(Left));
+    Turns turns = { word(words, 0), word(words, 1), PyList_New(0), PyList_New(0), calls, false };
+    bool is_done = turns.kept && turns.faults && (room || PyErr_NoMemory()) && is_pending_taken(&pending, self);
     if (is_done) {
         tell_all(&turns, &pending);
-        is_done = leave(turns.told, word(words, 2), turns.kept, PyList_Size(turns.faults) > 0);
+        is_done = turns_end(&turns, word(words, 2), room);
+    } else {
+        PyMem_Free(room);
     }
     numbers_drop(&pending);
-    PyMem_Free(turns.kept_back);
     Py_XDECREF(turns.kept);
     if (!is_done)
         Py_CLEAR(turns.faults);
@@ -378,14 +445,24 @@ static PyObject *node_owner_document(PyObject *self, PyObject *nothing)
     return links.document == number_of(self) ? none() : made_at(self, KIND_DOCUMENT, FAMILY_NODE, links.document);
 }
 
+/* Whether a node has a child: the number of the first, and its links. Parsers and copies number nodes in tree order, so it is most often the next
+ * number; to look at that first touches less memory. */
+static bool has_first_child(hp_session *session, uint32_t node, uint32_t *child, hp_node_links *links)
+{
+    *child = node + 1;
+    if (hp_links(session, *child, links) == HP_OK && links->parent == node && links->previous == HP_NONE)
+        return true;
+    return hp_first_child(session, node, child) == HP_OK && *child != HP_NONE && hp_links(session, *child, links) == HP_OK;
+}
+
 /* Whether a node has one child, which is a Text: its data is lent. */
 static bool is_one_text(hp_session *session, uint32_t node, hp_text_view *to)
 {
     uint32_t child = HP_NONE;
     hp_node_links links;
-    if (hp_first_child(session, node, &child) != HP_OK || child == HP_NONE || hp_links(session, child, &links) != HP_OK)
+    if (!has_first_child(session, node, &child, &links) || links.kind != KIND_TEXT || links.next != HP_NONE)
         return false;
-    return links.kind == KIND_TEXT && links.next == HP_NONE && hp_data_of(session, child, to) == HP_OK;
+    return hp_data_of(session, child, to) == HP_OK;
 }
 
 /* The text in a node. Fast path: a node with one child that is a Text, other than a Document, which has none. */
@@ -399,6 +476,62 @@ static PyObject *node_text_content(PyObject *self, PyObject *nothing)
         return text_from(view.units, view.length);
     uint8_t status = hp_text_content(session_of(self), number_of(self));
     return status ? refused_of(status, "text_content", self, NULL, 0) : text_answer(session_of(self));
+}
+
+/* Whether a number is that of a Text: its data is lent, and the node behind it is told. */
+static bool is_text(hp_session *session, uint32_t node, hp_text_view *to, uint32_t *next)
+{
+    hp_node_links links;
+    if (node == HP_NONE || hp_links(session, node, &links) != HP_OK || links.kind != KIND_TEXT)
+        return false;
+    *next = links.next;
+    return hp_data_of(session, node, to) == HP_OK;
+}
+
+/* The data of the Texts from a node on, up to one of another kind; None if there are none. */
+static PyObject *texts_from(hp_session *session, uint32_t first)
+{
+    size_t length = 0, at = 0;
+    uint32_t node = first, next = HP_NONE;
+    hp_text_view view;
+    for (; is_text(session, node, &view, &next); node = next)
+        length += view.length;
+    if (node == first)
+        return none();
+    uint16_t *units = PyMem_Malloc(2 * length + 2);
+    if (!units)
+        return PyErr_NoMemory();
+    for (node = first; is_text(session, node, &view, &next); node = next) {
+        if (view.length)
+            memcpy(units + at, view.units, 2 * view.length);
+        at += view.length;
+    }
+    PyObject *found = text_from(units, length);
+    PyMem_Free(units);
+    return found;
+}
+
+static PyObject *node_text(PyObject *self, PyObject *nothing)
+{
+    (void)nothing;
+    if (is_busy(((Thing *)self)->calls))
+        return NULL;
+    hp_text_view view;
+    uint32_t child = HP_NONE;
+    if (is_one_text(session_of(self), number_of(self), &view))
+        return text_from(view.units, view.length);
+    uint8_t status = hp_first_child(session_of(self), number_of(self), &child);
+    return status ? refused_of(status, "first_child", self, NULL, 0) : texts_from(session_of(self), child);
+}
+
+static PyObject *node_tail(PyObject *self, PyObject *nothing)
+{
+    (void)nothing;
+    if (is_busy(((Thing *)self)->calls))
+        return NULL;
+    hp_node_links links;
+    uint8_t status = hp_links(session_of(self), number_of(self), &links);
+    return status ? refused_of(status, "links", self, NULL, 0) : texts_from(session_of(self), links.next);
 }
 
 static PyObject *node_has_child_nodes(PyObject *self, PyObject *nothing)

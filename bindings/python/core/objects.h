@@ -110,26 +110,42 @@ static hp_session *session_at(PyObject *calls)
     return &((Calls *)calls)->session;
 }
 
-/* Whether another thread is in a long call of the session, which is raised. (While it is raised that call may end.) */
-static bool is_busy(const Calls *it)
+/* Copies the last answer of the library if that is still to be done; or raises. */
+static bool is_answer_copied(Calls *calls);
+
+/* Frees the records and the notices that the session has for later. */
+static void drop_taken(Calls *calls);
+
+/* Checks whether a call can't be made, and raises why. (While it is raised a long call of another thread may end.) */
+static bool is_busy(Calls *it)
 {
-    if (!it->is_busy)
+    if (it->busy == FREE)
         return false;
+    if (it->busy == HAS_ANSWER)
+        return !is_answer_copied(it);
     raise_ours("SessionInUse", PyUnicode_FromString("another thread is in a long call of this session"));
     return true;
+}
+
+/* Checks the same of the call that closes the session, and forgets what was taken. */
+static bool is_busy_closing(Calls *it)
+{
+    if (it->busy != IN_LONG_CALL)
+        drop_taken(it);
+    return is_busy(it);
 }
 
 /* Lets other threads run while the library does what may take long. Its memory is malloc's, which asks for no lock of Python. */
 static PyThreadState *begin_long(Calls *it)
 {
-    it->is_busy = true;
+    it->busy = IN_LONG_CALL;
     return PyEval_SaveThread();
 }
 
 static void end_long(Calls *it, PyThreadState *thread)
 {
     PyEval_RestoreThread(thread);
-    it->is_busy = false;
+    it->busy = FREE;
 }
 
 static PyObject *calls_new(PyTypeObject *type, PyObject *words, PyObject *named)
@@ -148,6 +164,7 @@ static void calls_dealloc(PyObject *self)
     PyTypeObject *type = Py_TYPE(self);
     Calls *it = (Calls *)self;
     hp_close(&it->session);
+    drop_taken(it);
     table_drop(&it->kept);
     labels_drop(&it->labels);
     order_drop(&it->order);

@@ -384,6 +384,15 @@ static PyObject *read_answer(PyObject *self, PyObject *node, const void *how)
     return status ? refused_of(status, it->call, node, NULL, 0) : text_answer(session_at(self));
 }
 
+static PyObject *read_text_content(PyObject *self, PyObject *node, const void *how)
+{
+    uint32_t number = 0;
+    hp_text_view view;
+    if (!own_node_of(self, node, &number))
+        return NULL;
+    return is_one_text(session_at(self), number, &view) ? text_from(view.units, view.length) : read_answer(self, node, how);
+}
+
 static PyObject *read_data(PyObject *self, PyObject *node, const void *how)
 {
     (void)how;
@@ -409,7 +418,7 @@ static PyObject *calls_read_text_content_of(PyObject *self, PyObject *nodes)
     if (is_busy((Calls *)self))
         return NULL;
     const Question how = { hp_text_content, "text_content" };
-    return read_each(self, nodes, read_answer, &how);
+    return read_each(self, nodes, read_text_content, &how);
 }
 
 static PyObject *read_attribute(PyObject *self, PyObject *node, const void *how)

@@ -65,24 +65,24 @@ WORDS = {
 
 # What is said of a status where its word does not say it.
 MEANINGS = {
-    HP_OK: "The call did what it says.",
+    HP_OK: "The call succeeded.",
     HP_NO_SUCH_OBJECT: "There is no object of that number.",
     HP_LIMIT: "There is no number left for a new object.",
-    HP_IN_USE: "What was to be discarded is still referred to.",
-    HP_OUT_OF_MEMORY: "Memory was wanting, now or at an earlier call: the session has ended. It takes no command, and what it holds can be read.",
+    HP_IN_USE: "Something still refers to a node that was to be discarded.",
+    HP_OUT_OF_MEMORY: "Out of memory, now or at an earlier call: the session has ended. It takes no command, and its nodes can still be read.",
     HP_CLOSED: "The handle is closed.",
     HP_ALREADY_OPEN: "The handle is open already.",
     HP_BAD_LIMITS: "The limits of a session are out of their range.",
     HP_NOT_UTF8: "The bytes of a name are no UTF-8.",
-    HP_BAD_LENGTHS: "Lengths and what they measure do not belong together.",
+    HP_BAD_LENGTHS: "Lengths do not fit the bytes or units that they measure.",
     HP_BAD_CHOICE: "A number stands for none of the choices.",
     HP_NOT_THERE: "The last answer, or the node, has no such part.",
-    HP_ENDED: "The session has ended, since memory was wanting once. The answer is of what it holds.",
+    HP_ENDED: "The session has ended, as it was out of memory once. The answer is from the world it still holds.",
 }
 
 
 class hp_options(NamedTuple):
-    """The members of MutationObserverInit: 0 for false, 1 for true, 2 for absent. Of the attribute filter 0 for absent, and 1 for the names that are handed beside."""
+    """The members of MutationObserverInit: 0 for false, 1 for true, 2 for absent. The attribute filter is 0 if absent, and 1 if its names are passed beside."""
 
     child_list: int
     attributes: int

@@ -11,15 +11,6 @@ XML = "http://www.w3.org/XML/1998/namespace"
 XMLNS = "http://www.w3.org/2000/xmlns/"
 
 
-def texts_from(node: Optional[Node]) -> Optional[str]:
-    """The data of the Texts from a node on, up to one of another kind; None if there are none."""
-    found: List[str] = []
-    while node is not None and node.node_type == node.TEXT_NODE:
-        found.append(node.text_content or "")
-        node = node.next_sibling
-    return "".join(found) if found else None
-
-
 def namespace_of(node: Optional[Node], prefix: Optional[str]) -> Optional[str]:
     """The namespace of a prefix, or of no prefix, as the declarations from an element upwards tell it."""
     if prefix in ("xml", "xmlns"):

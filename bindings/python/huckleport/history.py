@@ -10,13 +10,16 @@
 from __future__ import annotations
 
 from contextlib import contextmanager
-from typing import Dict, Iterable, Iterator, List, NamedTuple, Optional, Tuple
+from typing import TYPE_CHECKING, Dict, Iterable, Iterator, List, NamedTuple, Optional, Tuple
 
 from ._steps import Move, Orders, Restore, Setting, Step, arrived, single, steps_back, with_values
 from .errors import Error, GroupIsOpen, NoSuchObject
 from .nodes import Node
 from .observers import MutationRecord
 from .ranges import Range
+
+if TYPE_CHECKING:
+    from ._core import hp_ends
 
 Place = Tuple[Node, int, Node, int]
 Places = Dict[Range, Place]
@@ -30,12 +33,19 @@ class Group(NamedTuple):
     there: Places
 
 
-def place(of: Range) -> Optional[Place]:
-    """Where a range stands, or None where it was released."""
-    try:
-        ends = of._ends()
-    except NoSuchObject:
-        return None
+def ends_now(ranges: Iterable[Range]) -> Dict[Range, hp_ends]:
+    """The ends of ranges, without those that were released."""
+    found = {}
+    for it in ranges:
+        try:
+            found[it] = it._ends()
+        except NoSuchObject:
+            pass
+    return found
+
+
+def place(of: Range, ends: hp_ends) -> Place:
+    """The place of a range with these ends."""
     node = of.session._node
     return node(ends.start), ends.start_offset, node(ends.end), ends.end_offset
 
@@ -72,14 +82,17 @@ class History:
         self._watches_outside = False
         self._observer = root.session.create_mutation_observer(lambda records, observer: self._see(records))
         self._watch(root)
+        # The ends of all ranges that are kept, by numbers, and the places that they are.
+        self._ends: Dict[Range, hp_ends] = {}
+        self._places: Places = {}
         self._places = self._places_now()
 
     def keep(self, bookmark: Range) -> Range:
         """Keeps a range: undoing puts it back where it stood. Returns it."""
         self._ranges.append(bookmark)
-        found = place(bookmark)
-        if found is not None:
-            self._places = {**self._places, bookmark: found}
+        for it, ends in ends_now([bookmark]).items():
+            self._ends = {**self._ends, it: ends}
+            self._places = {**self._places, it: place(it, ends)}
         return bookmark
 
     def let_go(self, bookmark: Range) -> None:
@@ -89,9 +102,7 @@ class History:
     @contextmanager
     def group(self) -> Iterator[None]:
         """What changes in a ``with`` of it, the places of ranges too, is undone together. Groups within a group are part of it."""
-        if self._depth == 0:
-            self.commit()
-            self._places = self._places_now()
+        self.commit()
         self._depth += 1
         try:
             yield
@@ -181,11 +192,13 @@ class History:
 
     def _take(self) -> List[MutationRecord]:
         """Takes what changed."""
-        told = set(map(id, self._records))
-        # (a callback that was interrupted is told again)
-        records = self._records + [it for it in self._observer.take_records() if id(it) not in told]
-        self._records = []
-        if records and not self._is_closed:
+        records = self._observer.take_records()
+        if self._records:
+            # (a callback that was interrupted is told again)
+            told = set(map(id, self._records))
+            records = self._records + [it for it in records if id(it) not in told]
+            self._records = []
+        if not self._is_closed and any(it.removed_nodes for it in records):
             self._watch_anew()
         return records
 
@@ -211,9 +224,11 @@ class History:
 
     def _places_now(self) -> Places:
         """The places of all ranges that are kept; where none was moved this is what was found before."""
-        found = {it: where for it, where in ((it, place(it)) for it in self._ranges) if where is not None}
-        before: Places = getattr(self, "_places", {})
-        return before if found == before else found
+        found = ends_now(self._ranges)
+        if found == self._ends:
+            return self._places
+        self._ends = found
+        return {it: place(it, ends) for it, ends in found.items()}
 
     def _steps(self, records: List[MutationRecord]) -> List[Step]:
         """What undoes records."""
@@ -235,7 +250,7 @@ class History:
             return False
         group = take[-1]
         self._check(group)
-        before = self._places_now()
+        before = self._places
         moved = {it: where for it, where in group.there.items() if before.get(it) == group.here.get(it)}
         back = self._do(group.steps, before)
         put_back(moved)
@@ -262,8 +277,9 @@ class History:
 
     def _check(self, group: Group) -> None:
         """Asks for each node before anything is changed, so that one that was discarded leaves all as it is."""
+        links = self.root._calls.links
         for number in {node.number for it in group.steps for node in it.nodes() if node is not None}:
-            self.root.session.node(number)
+            links(number)
 
     def _forget(self, steps: List[Step]) -> None:
         """Takes its own changes from what it watches."""

@@ -347,7 +347,7 @@ class ChildNode(Node):
     @property
     def tail(self) -> Optional[str]:
         """The text behind it, up to the next node that is no Text, as in lxml; None if there is none. It is only read."""
-        return _tree.texts_from(self.next_sibling)
+        raise InCore
 
     def _beside(self, nodes: Tuple[Union[Node, str], ...], is_behind: bool) -> Optional[Node]:
         """The next sibling before or behind it that is none of the nodes, which move."""
@@ -446,7 +446,7 @@ class Element(ParentNode, ChildNode):
     @property
     def text(self) -> Optional[str]:
         """The text in it ahead of its first child that is no Text, as in lxml; None if there is none. It is only read."""
-        return _tree.texts_from(self.first_child)
+        raise InCore
 
     def matches(self, selectors: str, namespaces: Optional[Dict[str, str]] = None) -> bool:
         """Whether it matches selectors of CSS. By soupsieve."""

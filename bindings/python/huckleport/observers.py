@@ -77,11 +77,10 @@ class MutationObserver(SessionObject):
 
     def take_records(self) -> List[MutationRecord]:
         """The records that were not told, which are taken."""
-        found: List[MutationRecord] = self._calls.read_records(self.session, self.number)
-        return self.session._take_left(self) + found
+        return self._calls.read_records(self, self.session._left)
 
     def release(self) -> None:
         """Lets the observer go: it watches nothing more, and lets the records go that were not told."""
         self._calls.release_observer(self.number)
         self.session._observers.pop(self.number, None)
-        self.session._take_left(self)
+        self.session._left[:] = [it for it in self.session._left if it is not None and it[0] is not self]

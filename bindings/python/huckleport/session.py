@@ -70,7 +70,7 @@ class Session:
         # Observers that observe stay, since their callbacks are still to be called; and those that lines have made.
         self._observers: Dict[int, MutationObserver] = {}
         # What was told to observers without a callback when a callback of another raised: it is still to be handed out.
-        self._left: List[Notice] = []
+        self._left: List[Optional[Notice]] = []
 
     def close(self) -> None:
         """Frees all that the session has. Every use of it, or of what is in it, raises ``SessionClosed`` from then on."""
@@ -213,12 +213,6 @@ class Session:
         if faults:
             raise together(faults)
         return told
-
-    def _take_left(self, observer: MutationObserver) -> List[MutationRecord]:
-        mine = [it for it in self._left if it[0] is observer]
-        for it in mine:
-            self._left.remove(it)
-        return [record for _, records in mine for record in records]
 
     def pending(self) -> List[MutationObserver]:
         """The observers that wait to be told."""

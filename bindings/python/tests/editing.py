@@ -7,8 +7,7 @@ import huckleport as h
 
 def ends_of(ranges):
     """The ends of ranges."""
-    found = ((it.start_container, it.start_offset, it.end_container, it.end_offset) for it in ranges)
-    return [(start.number, first, end.number, last) for start, first, end, last in found]
+    return [tuple(it._ends()) for it in ranges]
 
 
 def seen(document, ranges):

@@ -44,6 +44,7 @@ def all_read():
         [dict(first.attributes), first.get_attribute_names(), first.get_attribute("lang"), first.get_attribute("none"), first.has_attribute("id")],
         [document.get_element_by_id("first"), document.get_elements_by_tag_name("b"), document.get_elements_by_class_name("none")],
         [session.data_of([bold.first_child]), session.text_content_of([first, document]), session.attribute_of([first], "id"), session.attributes_of([first])],
+        [[first.contains(it) for it in (first, bold, bold.first_child, root, None)], first.text, bold.text, root.text, bold.tail, first.tail],
         [bookmark.start_container, bookmark.start_offset, bookmark.end_container, session.node(first.number), bold.get_root_node()],
     )
 

@@ -296,45 +296,92 @@ class LongCalls(unittest.TestCase):
 
 @unittest.skipUnless(importlib.util.find_spec("_testcapi"), "there is no _testcapi, by which Python's memory is made wanting")
 class Memory(unittest.TestCase):
-    """Python's own memory is wanting once, at each place in turn, while observers are told: nobody's records are lost."""
+    """Python's own memory is wanting, at each place in turn, while observers are told or records are taken: nobody's records are lost."""
 
     SOURCE = """
 import _testcapi, sys
 import huckleport as h
 from huckleport.observers import MutationRecord
 
-lost, failed = [], 0
-for start in range(1, 150):
+DUE = [("attributes", ""), ("attributes", "b"), ("childList", "")]
+
+def seen(start, stop, is_taking):
+    # What three observers were told while allocations fail from one on, up to another or for good; whether one did; and whether all goes on after it.
     session = h.Session()
     root = session.document.append_child(session.document.create_element("root"))
     told = [[], [], []]
     observers = [session.create_mutation_observer(lambda records, observer, its=its: its.extend(records)) for its in told[:2]]
     observers.append(session.create_mutation_observer())
+    last = observers[2]
     for it in observers:
         it.observe(root, child_list=True, attributes=True, attribute_old_value=True)
     root.append("x")
     root.set_attribute("a", "b")
     root.set_attribute("a", "c")
-    returned = []
+    returned, records, has_failed = [], [], False
+    _testcapi.set_nomemory(start, stop)
     try:
-        _testcapi.set_nomemory(start, start + 1)
-        returned = session.notify()
+        if is_taking:
+            records = last.take_records()
+        else:
+            returned = session.notify()
     except MemoryError:
-        failed += 1
+        has_failed = True
     finally:
         _testcapi.remove_mem_hooks()
+    told[2].extend(records)
     for observer, records in returned + session.notify():
         told[observers.index(observer)].extend(records)
+    is_over = len(told[2]) == 3 and not session.notify() and not last.take_records()
     found = [sorted({(it.type, it.old_value or "") for it in its}) for its in told]
-    if any(it != [("attributes", ""), ("attributes", "b"), ("childList", "")] for it in found):
-        lost.append((start, found))
+    # (what nobody holds goes again)
+    count = session.in_use().nodes
+    session.document.create_text_node("y")
+    is_over = is_over and session.in_use().nodes == count
     session.close()
-print(failed > 0, lost)
+    return found, has_failed, is_over
+
+lost, failed, last = [], 0, int(sys.argv[1])
+for is_taking in (False, True):
+    for count in (1, 2, 3, 5, 10, 0):
+        for start in range(1, last):
+            found, has_failed, is_over = seen(start, count and start + count, is_taking)
+            failed += has_failed
+            if found != [DUE] * 3 or not is_over:
+                lost.append((is_taking, count, start, found, is_over))
+print(failed > 100, lost)
 """
 
     def test_notices(self):
-        ran = subprocess.run([sys.executable, "-c", self.SOURCE], stdout=subprocess.PIPE, stderr=subprocess.STDOUT, universal_newlines=True)
+        ran = subprocess.run([sys.executable, "-c", self.SOURCE, "90"], stdout=subprocess.PIPE, stderr=subprocess.STDOUT, universal_newlines=True)
         self.assertEqual(ran.stdout, "True []\n")
+
+    def test_disconnected(self):
+        """What was taken for nobody is forgotten as what waits is: by an observer that is disconnected or released, and with the session."""
+        source = """
+import _testcapi
+import huckleport as h
+
+for how in ("disconnect", "release", "close"):
+    session = h.Session()
+    root = session.document.append_child(session.document.create_element("root"))
+    observer = session.create_mutation_observer()
+    observer.observe(root, attributes=True)
+    root.set_attribute("a", "b")
+    has_failed = False
+    _testcapi.set_nomemory(3, 0)
+    try:
+        observer.take_records()
+    except MemoryError:
+        has_failed = True
+    finally:
+        _testcapi.remove_mem_hooks()
+    print(how, has_failed, end=" ")
+    (session.close if how == "close" else getattr(observer, how))()
+    print(session.closed or session.notify())
+"""
+        ran = subprocess.run([sys.executable, "-c", source], stdout=subprocess.PIPE, stderr=subprocess.STDOUT, universal_newlines=True)
+        self.assertEqual(ran.stdout, "disconnect True []\nrelease True []\nclose True True\n")
 
 
 if __name__ == "__main__":

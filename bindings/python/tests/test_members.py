@@ -1,5 +1,6 @@
 """What Python's users expect beside the standard's members: mappings, iteration, several nodes at once, offsets, and reasons of refusals."""
 import inspect
+import os
 import pkgutil
 import random
 import time
@@ -69,7 +70,8 @@ class Members(unittest.TestCase):
             self.root.first_child.remove()
         seconds = time.process_time() - began
         self.assertFalse(self.root.has_child_nodes())
-        self.assertLess(seconds, 1)
+        # (an emulated processor takes several times as long)
+        self.assertLess(seconds, 5 if os.environ.get("HUCKLEPORT_EMULATED") else 1)
 
     def test_several_at_once(self):
         a, b, c, d, e, f = self.make(*"abcdef")

@@ -5,7 +5,7 @@ import unittest
 
 import huckleport as h
 from tests.editing import seen
-from tests.wandering import history_of, leave
+from tests.wandering import try_histories
 
 IS_LONG = os.environ.get("HUCKLEPORT_LONG") == "1"
 # (with a Python that is tried beside another a few are enough)
@@ -263,23 +263,7 @@ class Pairs(unittest.TestCase):
 
 class Random(unittest.TestCase):
     def test_histories(self):
-        for seed in range(HISTORIES):
-            if seed % 200 == 0:
-                session = h.Session()
-            history, editor, states, ranges = history_of(session, session.document, seed)
-            for step, due in ((history.undo, states[::-1]), (history.redo, states), (history.undo, states[::-1])):
-                self.steps(step, lambda: seen(session.document, ranges), due, seed)
-            leave(history, editor)
-
-    def steps(self, step, look, states, seed):
-        """Goes from state to state. What shows nowhere (in a node that stands outside before and after) leaves the state before."""
-        at = 0
-        while step():
-            now = look()
-            while at + 1 < len(states) and now != states[at]:
-                at += 1
-            self.assertEqual(now, states[at], seed)
-        self.assertEqual(look(), states[-1], seed)
+        self.assertEqual(try_histories(0, HISTORIES), [])
 
 
 if __name__ == "__main__":

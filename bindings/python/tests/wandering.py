@@ -151,6 +151,46 @@ def make_group(history, editor):
             raise Refused
 
 
+class Wrong(Exception):
+    """A history that led to something else than it should."""
+
+
+def steps(step, look, states, seed):
+    """Goes from state to state. What shows nowhere (in a node that stands outside before and after) leaves the state before."""
+    at = 0
+    while step():
+        now = look()
+        while at + 1 < len(states) and now != states[at]:
+            at += 1
+        if now != states[at]:
+            raise Wrong(f"the history of seed {seed} leads to {now}, and not to {states[at]}")
+    if look() != states[-1]:
+        raise Wrong(f"the history of seed {seed} ends with {look()}, and not with {states[-1]}")
+
+
+def there_and_back(session, seed):
+    """Makes the history of a seed in a session, undoes all of it, does it again and undoes it once more."""
+    history, editor, states, ranges = history_of(session, session.document, seed)
+    for step, due in ((history.undo, states[::-1]), (history.redo, states), (history.undo, states[::-1])):
+        steps(step, lambda: seen(session.document, ranges), due, seed)
+    leave(history, editor)
+
+
+def try_histories(first, count, tell=lambda done: None):
+    """Tries the histories of so many seeds from one on, some of them in one session. Returns the seeds of those that were wrong."""
+    wrong = []
+    for seed in range(first, first + count):
+        if (seed - first) % 200 == 0:
+            session = h.Session()
+            tell(seed - first)
+        try:
+            there_and_back(session, seed)
+        except Exception as fault:
+            wrong.append((seed, fault))
+            session = h.Session()
+    return wrong
+
+
 def leave(history, editor):
     """Lets all of a history go."""
     history.close()

@@ -43,7 +43,7 @@ pub(crate) const HP_ATTRIBUTES: u8 = 0;
 pub(crate) const HP_CHARACTER_DATA: u8 = 1;
 pub(crate) const HP_CHILD_LIST: u8 = 2;
 
-/// Bytes that are lent.
+/// Borrowed bytes.
 #[repr(C)]
 #[allow(non_camel_case_types)]
 pub(crate) struct hp_bytes {
@@ -51,7 +51,7 @@ pub(crate) struct hp_bytes {
     length: usize,
 }
 
-/// UTF-16 units that are lent.
+/// Borrowed UTF-16 units.
 #[repr(C)]
 #[allow(non_camel_case_types)]
 pub(crate) struct hp_text_view {
@@ -59,7 +59,7 @@ pub(crate) struct hp_text_view {
     length: usize,
 }
 
-/// A row of a tree: how deep the node stands below the one that was asked for, its number, the standard's number of its kind (`nodeType`), and how many attributes it has.
+/// A row of a tree: the node's depth below the printed root, its number, the standard's number of its kind (`nodeType`), and the number of its attributes.
 #[repr(C)]
 #[derive(Clone, Copy, Default)]
 #[allow(non_camel_case_types)]
@@ -70,7 +70,7 @@ pub(crate) struct hp_row {
     pub(crate) attributes: usize,
 }
 
-/// What an observer is told: its number, and how many records.
+/// A notice: the number of the observer, and the number of its records.
 #[repr(C)]
 #[derive(Clone, Copy, Default)]
 #[allow(non_camel_case_types)]
@@ -79,7 +79,7 @@ pub(crate) struct hp_notice {
     pub(crate) records: usize,
 }
 
-/// A record: its type (`HP_ATTRIBUTES`, `HP_CHARACTER_DATA` or `HP_CHILD_LIST`), its target, how many nodes were added and removed, and the siblings beside them, or HP_NONE.
+/// A record: its type (`HP_ATTRIBUTES`, `HP_CHARACTER_DATA` or `HP_CHILD_LIST`), its target, the numbers of added and removed nodes, and the siblings beside them, or HP_NONE.
 #[repr(C)]
 #[derive(Clone, Copy, Default)]
 #[allow(non_camel_case_types)]
@@ -115,7 +115,7 @@ pub(crate) struct hp_static_ends {
     pub(crate) is_valid: u8,
 }
 
-/// The root and the reference of an iterator, and whether it stands before the reference: 0 or 1.
+/// The root and the reference of an iterator, and whether its pointer is before the reference: 0 or 1.
 #[repr(C)]
 #[derive(Clone, Copy, Default)]
 #[allow(non_camel_case_types)]
@@ -134,7 +134,7 @@ pub(crate) struct hp_walker_at {
     pub(crate) current: u32,
 }
 
-/// The node document, the kind by the standard's number (`nodeType`), and the nodes beside and above, or HP_NONE.
+/// The node document, the kind by the standard's number (`nodeType`), and the siblings and the parent, or HP_NONE.
 #[repr(C)]
 #[derive(Clone, Copy, Default)]
 #[allow(non_camel_case_types)]
@@ -146,7 +146,7 @@ pub(crate) struct hp_place {
     pub(crate) previous: u32,
 }
 
-/// A node: the standard's number of its kind (`nodeType`), its node document, the nodes above, beside and below it, or HP_NONE, how many children it has, and its length.
+/// A node: the standard's number of its kind (`nodeType`), its node document, its parent, siblings and first and last child, or HP_NONE, the number of its children, and its length.
 #[repr(C)]
 #[derive(Clone, Copy, Default)]
 #[allow(non_camel_case_types)]
@@ -162,7 +162,7 @@ pub(crate) struct hp_node_links {
     pub(crate) length: usize,
 }
 
-/// How many objects of each kind there are: those that were made, and neither discarded nor released. The registrations are those of all observers, with the transient ones.
+/// The number of objects of each kind that were made, and neither discarded nor released. The registrations are those of all observers, with the transient ones.
 #[repr(C)]
 #[derive(Clone, Copy, Default)]
 #[allow(non_camel_case_types)]
@@ -184,7 +184,7 @@ pub(crate) struct hp_session {
     pub(crate) is_open: bool,
 }
 
-/// The members of `MutationObserverInit`: 0 for false, 1 for true, 2 for absent. Of the attribute filter 0 for absent, and 1 for the names that are handed beside.
+/// The members of `MutationObserverInit`: 0 for false, 1 for true, 2 for absent. The attribute filter is 0 if absent, and 1 if its names are passed beside.
 #[repr(C)]
 #[derive(Clone, Copy, Default)]
 #[allow(non_camel_case_types)]
@@ -198,7 +198,7 @@ pub(crate) struct hp_options {
     pub(crate) attribute_filter: u8,
 }
 
-/// The owner of what is kept on the heap, or of nothing. All zero bytes are an empty slot.
+/// The owner of a session's state on the heap, or of nothing. All zero bytes are an empty slot.
 #[repr(C)]
 #[allow(non_camel_case_types)]
 pub(crate) struct hp_slot {

@@ -21,7 +21,7 @@ use dom_session::{Brief, Editing, IteratorId, Making, Move, NodeId, Reading, Uni
 use dom_wire::{Command, Ended, Reply};
 
 impl Kept {
-    // Keeps a reply, and tells its status.
+    // Stores a reply, and returns its status.
     fn keep(&mut self, reply: Reply) -> u8
         ensures kept { self.new ≡ with_reply self.old reply }
         ensures status { result ≡ status_of (reply_view reply) }
@@ -31,7 +31,7 @@ impl Kept {
         status
     }
 
-    // Keeps a reply whose answer is small, and tells its status.
+    // Stores a reply with a small answer, and returns its status.
     #[inline(always)]
     fn note(&mut self, reply: Brief) -> u8
         ensures kept { self.new ≡ with_reply self.old (reply_of reply) }
@@ -41,7 +41,7 @@ impl Kept {
         status_of_brief(reply)
     }
 
-    // Notes that memory was wanting.
+    // Notes that the session is out of memory.
     fn end(&mut self) -> u8
         ensures kept { self.new ≡ at_end self.old }
         ensures status { result ≡ out_of_memory }
@@ -50,7 +50,7 @@ impl Kept {
         HP_OUT_OF_MEMORY
     }
 
-    // Applies a command, and keeps its reply.
+    // Applies a command, and stores its reply.
     fn apply(&mut self, command: Command) -> u8
         ensures { Steps (step_for self.old (Ok (command_view command))) self.old self.new result }
     {
@@ -63,7 +63,7 @@ impl Kept {
         }
     }
 
-    // Applies a command that makes a node, and keeps its reply.
+    // Applies a command that makes a node, and stores its reply.
     fn make(&mut self, command: Making) -> u8
         ensures { Steps (step_for self.old (Ok (making_view command))) self.old self.new result }
     {
@@ -76,7 +76,7 @@ impl Kept {
         }
     }
 
-    // Makes an Element, and keeps the reply.
+    // Makes an Element, and stores the reply.
     fn make_element(&mut self, document: NodeId, name: &str) -> u8
         ensures { Steps (step_for self.old (Ok (CreateElement document name.now))) self.old self.new
             result }
@@ -90,7 +90,7 @@ impl Kept {
         }
     }
 
-    // Makes a Text, and keeps the reply.
+    // Makes a Text, and stores the reply.
     fn make_text(&mut self, document: NodeId, text: Units) -> u8
         ensures { Steps (step_for self.old (Ok (CreateText document text))) self.old self.new
             result }
@@ -104,7 +104,7 @@ impl Kept {
         }
     }
 
-    /// Applies a command that changes where nodes stand, and keeps its reply.
+    /// Applies an edit of the tree, and stores its reply.
     #[inline(always)]
     pub(crate) fn edit(&mut self, command: Editing) -> u8
         ensures { Steps (step_for self.old (Ok (editing_view command))) self.old self.new result }
@@ -118,7 +118,7 @@ impl Kept {
         }
     }
 
-    /// Moves an iterator on, and keeps the reply.
+    /// Moves an iterator on, and stores the reply.
     pub(crate) fn next_node(&mut self, iterator: IteratorId) -> u8
         ensures { Steps (step_for self.old (Ok (NextNode iterator))) self.old self.new result }
     {
@@ -131,7 +131,7 @@ impl Kept {
         }
     }
 
-    /// Moves an iterator back, and keeps the reply.
+    /// Moves an iterator back, and stores the reply.
     pub(crate) fn previous_node(&mut self, iterator: IteratorId) -> u8
         ensures { Steps (step_for self.old (Ok (PreviousNode iterator))) self.old self.new result }
     {
@@ -144,7 +144,7 @@ impl Kept {
         }
     }
 
-    // Moves a walker, and keeps the reply.
+    // Moves a walker, and stores the reply.
     fn move_walker(&mut self, walker: WalkerId, direction: Move) -> u8
         ensures { Steps (step_for self.old (Ok (Walk walker direction))) self.old self.new result }
     {
@@ -157,7 +157,7 @@ impl Kept {
         }
     }
 
-    // Keeps a reply of a session that has ended, and tells its status.
+    // Stores a reply of a session that has ended, and returns its status.
     fn keep_at_end(&mut self, reply: Reply) -> u8
         ensures kept { self.new ≡ with_reply self.old reply }
         ensures status { result ≡ status_at_end (reply_view reply) }
@@ -167,7 +167,7 @@ impl Kept {
         status
     }
 
-    /// Answers a question that takes no memory, and keeps the reply.
+    /// Answers a question that takes no memory, and stores the reply.
     pub(crate) fn read(&mut self, question: Reading) -> u8
         ensures { AsksOrEnded self.old.ended (Ok (reading_view question)) self.old self.new result }
     {
@@ -178,7 +178,7 @@ impl Kept {
         self.keep(reply)
     }
 
-    // Tells whether an element has an attribute, and keeps the reply.
+    // Returns whether an element has an attribute, and stores the reply.
     fn ask_attribute(&mut self, element: NodeId, name: &str) -> u8
         ensures { AsksOrEnded self.old.ended (Ok (HasAttribute element name.now)) self.old self.new
             result }
@@ -190,7 +190,7 @@ impl Kept {
         self.keep(reply)
     }
 
-    // Says what is wrong with arguments. Memory that was wanting ends the session.
+    // Reports a fault of the arguments. Out of memory ends the session.
     fn refuse(&mut self, fault: Fault) -> u8
         ensures { (c : Result PlainCommand ℕ) → IsFaultOf fault c →
             Steps (step_for self.old c) self.old self.new result }
@@ -206,7 +206,7 @@ impl Kept {
         }
     }
 
-    /// Takes a command that was read, or says what is wrong with its arguments.
+    /// Applies a command that was read, or reports the fault of its arguments.
     pub(crate) fn take(&mut self, command: Result<Command, Fault>) -> u8
         ensures { (c : Result PlainCommand ℕ) → Reads command_view command c →
             Steps (step_for self.old c) self.old self.new result }
@@ -217,7 +217,7 @@ impl Kept {
         }
     }
 
-    /// The same of a command that makes a node.
+    /// Applies a command that makes a node, or reports the fault of its arguments.
     pub(crate) fn take_making(&mut self, command: Result<Making, Fault>) -> u8
         ensures { (c : Result PlainCommand ℕ) → Reads making_view command c →
             Steps (step_for self.old c) self.old self.new result }
@@ -228,7 +228,7 @@ impl Kept {
         }
     }
 
-    /// Makes an Element of a name that was read, or says what is wrong with it.
+    /// Makes an Element from a name that was read, or reports its fault.
     pub(crate) fn create_element(&mut self, document: NodeId, name: Result<&str, Fault>) -> u8
         ensures { (c : Result (List ℕ) ℕ) → Reads (λ name. name.now) name.entry c →
             Steps (step_for self.old (then_make c (λ name. Ok (CreateElement document name))))
@@ -240,7 +240,7 @@ impl Kept {
         }
     }
 
-    /// Makes a Text of data that was read, or says what is wrong with it.
+    /// Makes a Text from data that was read, or reports its fault.
     pub(crate) fn create_text(&mut self, document: NodeId, text: Result<Units, Fault>) -> u8
         ensures { (c : Result (List ℕ) ℕ) → Reads (λ text. text) text c →
             Steps (step_for self.old (then_make c (λ text. Ok (CreateText document text)))) self.old
@@ -252,7 +252,7 @@ impl Kept {
         }
     }
 
-    /// Makes a move of a walker that was read, or says what is wrong with it.
+    /// Makes a walker's move that was read, or reports its fault.
     pub(crate) fn walk(&mut self, walker: WalkerId, direction: Result<Move, Fault>) -> u8
         ensures { (c : Result AMove ℕ) → Reads (λ direction. direction) direction c →
             Steps (step_for self.old (then_make c (λ direction. Ok (Walk walker direction))))
@@ -264,7 +264,7 @@ impl Kept {
         }
     }
 
-    /// Tells whether an element has an attribute of a name, or says that the name is no UTF-8.
+    /// Returns whether an element has an attribute of a name, or reports that the name is no UTF-8.
     pub(crate) fn has_attribute(&mut self, element: NodeId, name: &[u8]) -> u8
         ensures { AsksOrEnded self.old.ended
             (then_make (name_in name.now) (λ name. Ok (HasAttribute element name))) self.old
@@ -278,7 +278,7 @@ impl Kept {
 }
 
 impl Handle {
-    /// Takes a command that was read, or says what is wrong with its arguments.
+    /// Applies a command that was read, or reports the fault of its arguments.
     pub(crate) fn take(&mut self, command: Result<Command, Fault>) -> u8
         ensures { (c : Result PlainCommand ℕ) → Reads command_view command c →
             Answers self.old self.new c result }

@@ -13,7 +13,7 @@ use crate::reading::node_or_none;
 use dom_session::{Asking, Copying, NodeId, Reading, Texts};
 use dom_wire::Command;
 
-/// Tells where a node stands, and of which kind it is; `hp_node_name` lends its names.
+/// Writes a node's kind and its neighbours; `hp_node_name` lends its names.
 #[unsafe(no_mangle)]
 pub extern "C" fn hp_node(handle: &mut Handle, node: u32, place: &mut Place) -> u8
     ensures answers { Answers handle.old handle.new (Ok (DescribeNode node)) result }
@@ -25,7 +25,7 @@ pub extern "C" fn hp_node(handle: &mut Handle, node: u32, place: &mut Place) -> 
     )
 }
 
-/// The children of a node: `hp_count` and `hp_number_at` read the answer.
+/// Finds the children of a node: `hp_count` and `hp_number_at` read the answer.
 #[unsafe(no_mangle)]
 pub extern "C" fn hp_children(handle: &mut Handle, node: u32) -> u8
     ensures { Answers handle.old handle.new (Ok (Children node)) result }
@@ -33,7 +33,7 @@ pub extern "C" fn hp_children(handle: &mut Handle, node: u32) -> u8
     handle.take(Ok(Command::Asking(Asking::Children(NodeId::new(node)))))
 }
 
-/// How many siblings stand before a node.
+/// Writes the number of siblings before a node.
 #[unsafe(no_mangle)]
 pub extern "C" fn hp_index(handle: &mut Handle, node: u32, index: &mut usize) -> u8
     ensures answers { Asks handle.old handle.new (Ok (Index node)) result }
@@ -42,7 +42,7 @@ pub extern "C" fn hp_index(handle: &mut Handle, node: u32, index: &mut usize) ->
     handle.read_count(Reading::Index(NodeId::new(node)), index)
 }
 
-/// The length of a node.
+/// Writes the length of a node.
 #[unsafe(no_mangle)]
 pub extern "C" fn hp_length(handle: &mut Handle, node: u32, length: &mut usize) -> u8
     ensures answers { Asks handle.old handle.new (Ok (Length node)) result }
@@ -51,7 +51,7 @@ pub extern "C" fn hp_length(handle: &mut Handle, node: u32, length: &mut usize) 
     handle.read_count(Reading::Length(NodeId::new(node)), length)
 }
 
-/// The root of a node.
+/// Writes the root of a node.
 #[unsafe(no_mangle)]
 pub extern "C" fn hp_root(handle: &mut Handle, node: u32, root: &mut u32) -> u8
     ensures answers { Asks handle.old handle.new (Ok (Root node)) result }
@@ -60,7 +60,7 @@ pub extern "C" fn hp_root(handle: &mut Handle, node: u32, root: &mut u32) -> u8
     handle.read_number(Reading::Root(NodeId::new(node)), root)
 }
 
-/// Whether another node is an inclusive descendant; `HP_NONE` is none.
+/// Writes whether another node is an inclusive descendant; `HP_NONE` is not.
 #[unsafe(no_mangle)]
 pub extern "C" fn hp_contains(handle: &mut Handle, node: u32, other: u32, contains: &mut u8) -> u8
     ensures answers { Answers handle.old handle.new (Ok (IsContaining node (number_or_none other)))
@@ -73,7 +73,7 @@ pub extern "C" fn hp_contains(handle: &mut Handle, node: u32, other: u32, contai
     )
 }
 
-/// Whether both nodes are equal; `HP_NONE` is equal to none.
+/// Writes whether both nodes are equal; `HP_NONE` equals none.
 #[unsafe(no_mangle)]
 pub extern "C" fn hp_is_equal(handle: &mut Handle, node: u32, other: u32, is_equal: &mut u8) -> u8
     ensures answers { Answers handle.old handle.new (Ok (IsEqual node (number_or_none other)))
@@ -86,7 +86,7 @@ pub extern "C" fn hp_is_equal(handle: &mut Handle, node: u32, other: u32, is_equ
     )
 }
 
-/// Where the second node stands, seen from the first, as the bits of the standard.
+/// Writes the position of the second node relative to the first, as the bits of the standard.
 #[unsafe(no_mangle)]
 pub extern "C" fn hp_compare_position(
     handle: &mut Handle,
@@ -103,7 +103,7 @@ pub extern "C" fn hp_compare_position(
     )
 }
 
-/// The text in a node: `hp_text` reads the answer, and there is none where it is null.
+/// Finds the text in a node: `hp_text` reads the answer, and has none if it is null.
 #[unsafe(no_mangle)]
 pub extern "C" fn hp_text_content(handle: &mut Handle, node: u32) -> u8
     ensures { Answers handle.old handle.new (Ok (TextContent node)) result }
@@ -111,7 +111,7 @@ pub extern "C" fn hp_text_content(handle: &mut Handle, node: u32) -> u8
     handle.take(Ok(Command::Texts(Texts::TextContent(NodeId::new(node)))))
 }
 
-/// A node and all below it, in tree order: `hp_count` counts the rows, `hp_row_at` and the calls of its kind read them.
+/// Prints a node and its descendants, in tree order: `hp_count` counts the rows, `hp_row_at` and the other row calls read them.
 #[unsafe(no_mangle)]
 pub extern "C" fn hp_tree(handle: &mut Handle, node: u32) -> u8
     ensures { Answers handle.old handle.new (Ok (Tree node)) result }

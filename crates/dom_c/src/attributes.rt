@@ -53,7 +53,7 @@ fn read_get_attribute(alloc: Global, element: u32, name: &[u8]) -> Result<Comman
     Ok(Command::Attributes(Attributes::GetAttribute(NodeId::new(element), name)))
 }
 
-/// The value of an attribute: `hp_text` reads the answer, and there is none where it is null.
+/// Finds the value of an attribute: `hp_text` reads the answer, and has none if it is null.
 #[unsafe(no_mangle)]
 pub extern "C" fn hp_get_attribute(
     handle: &mut Handle,
@@ -67,7 +67,7 @@ pub extern "C" fn hp_get_attribute(
     handle.take(read_get_attribute(alloc, element, name))
 }
 
-/// Whether there is an attribute of that name. No memory is taken, and a session that has ended answers by `HP_ENDED`.
+/// Writes whether there is an attribute of that name. It takes no memory, and a session that has ended answers with `HP_ENDED`.
 #[unsafe(no_mangle)]
 pub extern "C" fn hp_has_attribute(
     handle: &mut Handle,
@@ -121,7 +121,7 @@ fn read_toggle_attribute(
     Ok(Command::Attributes(Attributes::ToggleAttribute(NodeId::new(element), name, force)))
 }
 
-/// Adds or removes an attribute. `force` is 0 to remove, 1 to add, and 2 for what turns it.
+/// Adds or removes an attribute. `force` is 0 to remove, 1 to add, and 2 to toggle.
 #[unsafe(no_mangle)]
 pub extern "C" fn hp_toggle_attribute(
     handle: &mut Handle,
@@ -139,7 +139,7 @@ pub extern "C" fn hp_toggle_attribute(
     handle.take_flag(read_toggle_attribute(alloc, element, name, force), is_there)
 }
 
-/// The names of the attributes, in order: `hp_count` and `hp_name_at` read the answer.
+/// Finds the names of the attributes, in order: `hp_count` and `hp_name_at` read the answer.
 #[unsafe(no_mangle)]
 pub extern "C" fn hp_attribute_names(handle: &mut Handle, element: u32) -> u8
     ensures { Answers handle.old handle.new (Ok (AttributeNames element)) result }

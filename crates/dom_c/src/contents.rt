@@ -1,4 +1,4 @@
-//! The commands on what is in a live range.
+//! The commands on the contents of a live range.
 
 ghost use Rattle.std.specs.Prelude.{◌≡◌, Ok};
 ghost use Rattle.dom_model.specs.Commands.Command.{RangeText, DeleteContents, ExtractContents, CloneContents, InsertNode, SurroundContents};
@@ -9,7 +9,7 @@ use crate::handle::Handle;
 use dom_session::{Contents, NodeId, RangeId};
 use dom_wire::Command;
 
-/// The text in a range: `hp_text` reads the answer.
+/// Finds the text in a range: `hp_text` reads the answer.
 #[unsafe(no_mangle)]
 pub extern "C" fn hp_range_text(handle: &mut Handle, range: u32) -> u8
     ensures { Answers handle.old handle.new (Ok (RangeText range)) result }
@@ -17,7 +17,7 @@ pub extern "C" fn hp_range_text(handle: &mut Handle, range: u32) -> u8
     handle.take(Ok(Command::Contents(Contents::RangeText(RangeId::new(range)))))
 }
 
-/// Deletes what is in a range.
+/// Deletes the contents of a range.
 #[unsafe(no_mangle)]
 pub extern "C" fn hp_delete_contents(handle: &mut Handle, range: u32) -> u8
     ensures { Answers handle.old handle.new (Ok (DeleteContents range)) result }
@@ -25,7 +25,7 @@ pub extern "C" fn hp_delete_contents(handle: &mut Handle, range: u32) -> u8
     handle.take(Ok(Command::Contents(Contents::DeleteContents(RangeId::new(range)))))
 }
 
-/// Takes what is in a range into a fragment.
+/// Moves the contents of a range into a fragment.
 #[unsafe(no_mangle)]
 pub extern "C" fn hp_extract_contents(handle: &mut Handle, range: u32, fragment: &mut u32) -> u8
     ensures answers { Answers handle.old handle.new (Ok (ExtractContents range)) result }
@@ -37,7 +37,7 @@ pub extern "C" fn hp_extract_contents(handle: &mut Handle, range: u32, fragment:
     )
 }
 
-/// Copies what is in a range into a fragment.
+/// Copies the contents of a range into a fragment.
 #[unsafe(no_mangle)]
 pub extern "C" fn hp_clone_contents(handle: &mut Handle, range: u32, fragment: &mut u32) -> u8
     ensures answers { Answers handle.old handle.new (Ok (CloneContents range)) result }
@@ -57,7 +57,7 @@ pub extern "C" fn hp_insert_node(handle: &mut Handle, range: u32, node: u32) -> 
     handle.take(Ok(Command::Contents(Contents::InsertNode(RangeId::new(range), NodeId::new(node)))))
 }
 
-/// Puts what is in a range into a node, and that node in its place.
+/// Moves the contents of a range into a node, and inserts the node in their place.
 #[unsafe(no_mangle)]
 pub extern "C" fn hp_surround_contents(handle: &mut Handle, range: u32, parent: u32) -> u8
     ensures { Answers handle.old handle.new (Ok (SurroundContents range parent)) result }

@@ -9,7 +9,7 @@ use crate::handle::Handle;
 use dom_session::{Copying, NodeId};
 use dom_wire::Command;
 
-/// A copy of a node for another document, with or without all below it.
+/// Copies a node for another document, with or without its descendants.
 #[unsafe(no_mangle)]
 pub extern "C" fn hp_import_node(
     handle: &mut Handle,
@@ -27,7 +27,7 @@ pub extern "C" fn hp_import_node(
     )
 }
 
-/// A copy of a node, with or without all below it.
+/// Copies a node, with or without its descendants.
 #[unsafe(no_mangle)]
 pub extern "C" fn hp_clone_node(handle: &mut Handle, node: u32, deep: bool, copy: &mut u32) -> u8
     ensures answers { Answers handle.old handle.new (Ok (CloneNode node deep)) result }

@@ -1,4 +1,4 @@
-//! How much a session holds, told with no command: the last answer stays, and no memory is taken.
+//! The number of objects in a session, read without a command: the last answer stays, and no memory is taken.
 
 ghost use Rattle.std.specs.Prelude.{◌≡◌};
 ghost use Rattle.dom_model.specs.Worlds.World.{World};
@@ -10,7 +10,7 @@ use crate::kept::Kept;
 use crate::status::HP_CLOSED;
 use dom_session::Counts as Found;
 
-/// How many objects of each kind there are: those that were made, and neither discarded nor released. The registrations are those of all
+/// The number of objects of each kind that were made, and neither discarded nor released. The registrations are those of all
 /// observers, with the transient ones.
 #[repr(C)]
 #[derive(Clone, Copy, Debug)]
@@ -24,7 +24,7 @@ pub struct Counts {
     pub registrations: usize,
 }
 
-// The counts of a session, as C reads them.
+// Returns the counts of a session, as C reads them.
 fn counts_told(found: Found) -> Counts
     ensures { result ≡ counts_told found }
 {
@@ -48,7 +48,7 @@ impl Kept {
     }
 }
 
-/// How many objects of each kind the session has, in constant time, so that a host can tell its garbage collector what the session holds.
+/// Writes the number of objects of each kind, in constant time, so that a host can tell its garbage collector the session's size.
 #[unsafe(no_mangle)]
 pub extern "C" fn hp_in_use(handle: &mut Handle, counts: &mut Counts) -> u8
     ensures kept { handle.new.slot.kept ≡ handle.old.slot.kept }

@@ -1,4 +1,4 @@
-//! Commands that go to the session as those of their group, and small answers that are written at once: calls of ordinary loops.
+//! Commands that go to the session by their group, with small answers that are written at once: the calls of ordinary loops.
 
 ghost use Rattle.std.specs.Prelude.{◌≡◌, ℕ, List, Ok, Result};
 ghost use Rattle.dom_model.specs.declared.Move.{Move as AMove};
@@ -14,7 +14,7 @@ use crate::status::{HP_CLOSED, as_answered};
 use dom_session::{Editing, IteratorId, Making, Move, NodeId, Reading, Units, WalkerId};
 
 impl Handle {
-    /// Takes a command that makes a node, or says what is wrong with its arguments. Writes the number of the node.
+    /// Applies a command that makes a node, or reports the fault of its arguments. Writes the number of the node.
     pub(crate) fn make(&mut self, command: Result<Making, Fault>, number: &mut u32) -> u8
         ensures answers { (c : Result PlainCommand ℕ) → Reads making_view command c →
             Answers self.old self.new c result }
@@ -29,7 +29,7 @@ impl Handle {
         status
     }
 
-    /// Makes an Element of a name that was read, or says what is wrong with it. Writes the number of the node.
+    /// Makes an Element from a name that was read, or reports its fault. Writes the number of the node.
     pub(crate) fn create_element(
         &mut self,
         document: NodeId,
@@ -50,7 +50,7 @@ impl Handle {
         status
     }
 
-    /// Makes a Text of data that was read, or says what is wrong with it. Writes the number of the node.
+    /// Makes a Text from data that was read, or reports its fault. Writes the number of the node.
     pub(crate) fn create_text(
         &mut self,
         document: NodeId,
@@ -70,7 +70,7 @@ impl Handle {
         status
     }
 
-    /// Takes a command that changes where nodes stand.
+    /// Applies an edit of the tree.
     #[inline(always)]
     pub(crate) fn edit(&mut self, command: Editing) -> u8
         ensures { Answers self.old self.new (Ok (editing_view command)) result }
@@ -109,7 +109,7 @@ impl Handle {
         status
     }
 
-    /// Makes a move of a walker that was read, or says what is wrong with it. Writes the node, or `HP_NONE`.
+    /// Makes a walker's move that was read, or reports its fault. Writes the node, or `HP_NONE`.
     pub(crate) fn walk(
         &mut self,
         walker: WalkerId,
@@ -130,8 +130,8 @@ impl Handle {
         status
     }
 
-    /// Tells whether an element has an attribute of a name, or says that the name is no UTF-8. Writes a
-    /// yes or a no: 1 or 0.
+    /// Writes whether an element has an attribute of a name, as 1 or 0, or reports that the name is no
+    /// UTF-8.
     pub(crate) fn has_attribute(&mut self, element: NodeId, name: &[u8], flag: &mut u8) -> u8
         ensures answers { Asks self.old self.new
             (then_make (name_in name.now) (λ name. Ok (HasAttribute element name))) result }

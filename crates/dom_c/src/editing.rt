@@ -38,7 +38,7 @@ pub extern "C" fn hp_adopt_node(handle: &mut Handle, document: u32, node: u32) -
     handle.edit(Editing::AdoptNode(NodeId::new(document), NodeId::new(node)))
 }
 
-/// Puts a node in place of a child.
+/// Replaces a child by a node.
 #[unsafe(no_mangle)]
 pub extern "C" fn hp_replace_child(handle: &mut Handle, parent: u32, node: u32, child: u32) -> u8
     ensures { Answers handle.old handle.new (Ok (ReplaceChild parent node child)) result }
@@ -54,7 +54,7 @@ pub extern "C" fn hp_remove_child(handle: &mut Handle, parent: u32, child: u32) 
     handle.edit(Editing::RemoveChild(NodeId::new(parent), NodeId::new(child)))
 }
 
-/// Removes a node from its parent, where it has one.
+/// Removes a node from its parent, if it has one.
 #[unsafe(no_mangle)]
 pub extern "C" fn hp_remove(handle: &mut Handle, node: u32) -> u8
     ensures { Answers handle.old handle.new (Ok (Remove node)) result }
@@ -62,7 +62,7 @@ pub extern "C" fn hp_remove(handle: &mut Handle, node: u32) -> u8
     handle.edit(Editing::Remove(NodeId::new(node)))
 }
 
-/// Puts a node, or with `HP_NONE` none, in place of all children.
+/// Replaces all children by a node, or with `HP_NONE` by none.
 #[unsafe(no_mangle)]
 pub extern "C" fn hp_replace_children(handle: &mut Handle, parent: u32, node: u32) -> u8
     ensures { Answers handle.old handle.new
@@ -71,7 +71,7 @@ pub extern "C" fn hp_replace_children(handle: &mut Handle, parent: u32, node: u3
     handle.edit(Editing::ReplaceChildren(NodeId::new(parent), node_or_none(node)))
 }
 
-/// Joins Text nodes below a node that stand side by side, and drops empty ones.
+/// Joins adjacent Text nodes below a node, and removes empty ones.
 #[unsafe(no_mangle)]
 pub extern "C" fn hp_normalize(handle: &mut Handle, node: u32) -> u8
     ensures { Answers handle.old handle.new (Ok (Normalize node)) result }
@@ -88,7 +88,7 @@ fn read_set_text_content(alloc: Global, node: u32, text: &[u16]) -> Result<Comma
     Ok(Command::Texts(Texts::SetTextContent(NodeId::new(node), text)))
 }
 
-/// Puts a text in place of what a node has.
+/// Replaces the contents of a node by a text.
 #[unsafe(no_mangle)]
 pub extern "C" fn hp_set_text_content(
     handle: &mut Handle,
@@ -101,7 +101,7 @@ pub extern "C" fn hp_set_text_content(
     handle.take(read_set_text_content(alloc, node, text))
 }
 
-/// Lets a node and all below it go.
+/// Frees a node and its descendants.
 #[unsafe(no_mangle)]
 pub extern "C" fn hp_discard(handle: &mut Handle, node: u32) -> u8
     ensures { Answers handle.old handle.new (Ok (Discard node)) result }

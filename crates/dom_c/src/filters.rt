@@ -1,4 +1,4 @@
-//! The filters of iterators and walkers, as C hands them.
+//! The filters of iterators and walkers, as C passes them.
 
 ghost use Rattle.std.specs.Prelude.{◌≡◌};
 ghost use Rattle.dom_c.specs.Reads.{Reads};
@@ -20,7 +20,7 @@ fn verdict_of(number: u8) -> Result<Verdict, Fault>
     }
 }
 
-/// The rules of a filter: names one after the other, the length of each, and for each the standard's number of a verdict.
+/// Reads the rules of a filter: names one after the other, the length of each, and for each the standard's number of a verdict.
 pub(crate) fn rules_of(
     alloc: Global,
     names: &[u8],

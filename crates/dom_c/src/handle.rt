@@ -1,4 +1,4 @@
-//! What C holds of a session.
+//! The handle by which C holds a session.
 
 ghost use Rattle.std.specs.Prelude.{◌≡◌, is_some};
 
@@ -9,6 +9,6 @@ use crate::slot::Slot;
 pub struct Handle {
     pub slot: Slot,
     pub is_open: bool,
-    // a handle is open where something is kept
+    // a handle is open if its slot is full
     ghost tied: { is_open ≡ is_some slot.kept },
 }

@@ -1,5 +1,5 @@
-//! What a node holds, lent with no command: the last answer stays, and no memory is taken. A session that has ended lends too what it
-//! holds, by `HP_ENDED`.
+//! Borrowing a node's name, data and attributes without a command: the last answer stays, and no memory is taken. A session that
+//! has ended still lends, with `HP_ENDED`.
 
 ghost use Rattle.std.specs.Prelude.{◌≡◌};
 ghost use Rattle.dom_model.specs.Worlds.World.{World};
@@ -16,7 +16,7 @@ use dom_session::NodeId;
 use dom_wire::OwnError;
 
 impl Kept {
-    // A part of a node's name.
+    // Borrows a part of a node's name.
     fn name_of(&self, node: u32, part: u8) -> Result<Option<&[u8]>, OwnError>
         ensures shown { (w : World) → StandsFor self.now.session w →
             lent_as (λ name. name.now) result ≡ name_told node part w.forest }
@@ -30,8 +30,8 @@ impl Kept {
     }
 }
 
-/// A part of a node's name: 0 the name of an Element or a DocumentType, or the target of a ProcessingInstruction; 1 the public id and
-/// 2 the system id of a DocumentType. Another kind has none.
+/// Lends a part of a node's name: 0 the name of an Element or a DocumentType, or the target of a ProcessingInstruction; 1 the public
+/// id and 2 the system id of a DocumentType. Another kind has none.
 #[unsafe(no_mangle)]
 pub extern "C" fn hp_name_of<'a>(
     handle: &'a mut Handle,
@@ -56,7 +56,7 @@ pub extern "C" fn hp_name_of<'a>(
     }
 }
 
-/// The data of a Text, a Comment or a ProcessingInstruction. Another kind has none.
+/// Lends the data of a Text, a Comment or a ProcessingInstruction. Another kind has none.
 #[unsafe(no_mangle)]
 pub extern "C" fn hp_data_of<'a>(handle: &'a mut Handle, node: u32, out: &mut Text<'a>) -> u8
     ensures { LendsForest handle.old (data_told node) out.old.units.now out.new.units.now result }
@@ -75,7 +75,7 @@ pub extern "C" fn hp_data_of<'a>(handle: &'a mut Handle, node: u32, out: &mut Te
     }
 }
 
-/// The attribute of a node at a place, from 0 on: its name and its value. Past the last, and in another kind than an Element, there is none.
+/// Lends the attribute of a node at a place, from 0 on: its name and its value. There is none past the last, and none if the node is no Element.
 #[unsafe(no_mangle)]
 pub extern "C" fn hp_attribute_at<'a>(
     handle: &'a mut Handle,

@@ -1,9 +1,9 @@
-//! What a handle keeps on the heap.
+//! The state of a handle, on the heap.
 
 use dom_wire::{Reply, Session};
 use std::alloc::Global;
 
-/// A session, the last reply, the last line that was printed, how many bytes a line may have, and whether memory was wanting once.
+/// A session, the last reply, the last line that was printed, the limit of bytes of a line, and whether the session is out of memory.
 #[derive(Drop)]
 pub struct Kept {
     pub session: Session,

@@ -1,4 +1,4 @@
-//! The names that a node has: what is lent of them in the answer of `hp_node`.
+//! The names of a node, borrowed from the answer of `hp_node`.
 
 ghost use Rattle.std.specs.Prelude.{◌≡◌, List, ℕ, Option, option_map, option_and_then};
 ghost use Rattle.dom_wire.specs.Sessions.{answer_view};
@@ -13,7 +13,7 @@ use crate::status::{HP_CLOSED, HP_NOT_THERE, HP_OK, HP_OUT_OF_MEMORY};
 use dom_session::{Answer, Kind, Label};
 use dom_wire::Reply;
 
-// The name of an element or a doctype, or the target of a processing instruction.
+// Borrows the name of an element or a doctype, or the target of a processing instruction.
 fn own_name(kind: Kind, name: &str) -> Option<&[u8]>
     ensures { option_map (λ name. name.now) result ≡ own_name kind name.now }
 {
@@ -23,7 +23,7 @@ fn own_name(kind: Kind, name: &str) -> Option<&[u8]>
     }
 }
 
-// An id of a doctype.
+// Borrows an id of a doctype.
 fn doctype_id(kind: Kind, id: &str) -> Option<&[u8]>
     ensures { option_map (λ id. id.now) result ≡ doctype_id kind id.now }
 {
@@ -33,7 +33,7 @@ fn doctype_id(kind: Kind, id: &str) -> Option<&[u8]>
     }
 }
 
-/// A part of a node's name: 0 for the name, 1 for the public id, 2 for the system id.
+/// Borrows a part of a node's name: 0 for the name, 1 for the public id, 2 for the system id.
 pub(crate) fn name_part(label: &Label, part: u8) -> Option<&[u8]>
     ensures { option_map (λ name. name.now) result ≡ name_part part label.now }
 {
@@ -66,8 +66,8 @@ impl Kept {
     }
 }
 
-/// A part of the name of the node that `hp_node` told of: 0 the name of an element or doctype, or the target of a processing instruction;
-/// 1 the public id and 2 the system id of a doctype.
+/// Lends a part of the name of the node in `hp_node`'s answer: 0 the name of an element or doctype, or the target of a processing
+/// instruction; 1 the public id and 2 the system id of a doctype.
 #[unsafe(no_mangle)]
 pub extern "C" fn hp_node_name<'a>(handle: &'a mut Handle, part: u8, out: &mut Bytes<'a>) -> u8
     ensures status { result ≡ look_up_status handle.old (node_name_part part) }

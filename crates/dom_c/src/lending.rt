@@ -1,4 +1,4 @@
-//! What is lent of the last answer: bytes and texts, which lie there until the next call with the handle.
+//! Borrowing from the last answer: bytes and texts, which are valid until the next call with the handle.
 
 ghost use Rattle.std.specs.Prelude.{◌≡◌, List, ℕ, Option, Some, None, option_map, option_and_then, string_bytes};
 ghost use Rattle.dom_wire.specs.Sessions.{answer_view};
@@ -12,14 +12,14 @@ use dom_session::Answer;
 use dom_wire::Reply;
 
 // (Before a call it holds a pointer that is not null; in C the header's inline forms see to that.)
-/// Bytes that are lent.
+/// Borrowed bytes.
 #[repr(C)]
 pub struct Bytes<'a> {
     pub bytes: &'a [u8],
 }
 
 // (The same holds of its pointer.)
-/// UTF-16 units that are lent.
+/// Borrowed UTF-16 units.
 #[repr(C)]
 pub struct Text<'a> {
     pub units: &'a [u16],
@@ -69,7 +69,7 @@ impl Kept {
     }
 }
 
-/// The text of the last answer, which is not there where it is null.
+/// Lends the text of the last answer; there is none if it is null.
 #[unsafe(no_mangle)]
 pub extern "C" fn hp_text<'a>(handle: &'a mut Handle, out: &mut Text<'a>) -> u8
     ensures status { result ≡ look_up_status handle.old text_in }
@@ -91,7 +91,7 @@ pub extern "C" fn hp_text<'a>(handle: &'a mut Handle, out: &mut Text<'a>) -> u8
     }
 }
 
-/// The name at an index of the last answer.
+/// Lends the name at an index of the last answer.
 #[unsafe(no_mangle)]
 pub extern "C" fn hp_name_at<'a>(handle: &'a mut Handle, index: usize, out: &mut Bytes<'a>) -> u8
     ensures status { result ≡ look_up_status handle.old (name_at index) }
@@ -114,7 +114,7 @@ pub extern "C" fn hp_name_at<'a>(handle: &'a mut Handle, index: usize, out: &mut
     }
 }
 
-/// The line of the reply to the last line, with its newline. It is empty before the first line.
+/// Lends the line of the reply to the last line, with its newline. It is empty before the first line.
 #[unsafe(no_mangle)]
 pub extern "C" fn hp_reply_line<'a>(handle: &'a mut Handle, out: &mut Bytes<'a>) -> u8
     ensures status { result ≡ line_status handle.old }

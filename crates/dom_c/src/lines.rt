@@ -16,7 +16,7 @@ use dom_wire::{
 };
 use std::alloc::{AllocError, Global};
 
-// The command of a line within a limit, or the refusal of its form.
+// Returns the command of a line within a limit, or the refusal of its form.
 #[tactic(auto, unfolding(dom_model::specs::Commands::Line::command_within))]
 fn read_within(alloc: Global, limit: usize, line: &[u8]) -> Result<Command, ReadError>
     ensures { Reads result (command_within whole_table limit line.now) }
@@ -27,7 +27,7 @@ fn read_within(alloc: Global, limit: usize, line: &[u8]) -> Result<Command, Read
     read_line(alloc, line)
 }
 
-// The reply to a line, for which the session takes its command.
+// Applies a line's command, and returns the reply.
 fn reply_to(
     alloc: Global,
     session: &mut Session,
@@ -51,7 +51,7 @@ fn reply_to(
 }
 
 impl Kept {
-    // Answers a line, and keeps its reply and the line of that.
+    // Answers a line, and stores its reply and the reply's line.
     fn answer_line(&mut self, line: &[u8]) -> u8
         ensures steps { TakesLine line.now self.old self.new result }
         ensures printed { IsPrinted self.new }

@@ -1,9 +1,9 @@
-//! What lies on the heap: what a handle keeps, seen as one value.
+//! The state of a handle on the heap, as one value.
 
 use crate::kept::Kept;
 use std::marker::Model;
 
-/// What a handle keeps, where its slot leads to. A contract sees it as that.
+/// The state behind a handle's slot. A contract sees it as one value.
 #[derive(Drop)]
 pub struct Lodged {
     pub kept: Kept,

@@ -1,5 +1,5 @@
-//! What stands around a node, read with no command: the last answer stays, and no memory is taken. A session that has ended answers
-//! too, of what it holds, by `HP_ENDED`.
+//! The neighbours of a node, read without a command: the last answer stays, and no memory is taken. A session that has ended still
+//! answers, from the world it holds, with `HP_ENDED`.
 
 ghost use Rattle.std.specs.Prelude.{◌≡◌};
 ghost use Rattle.dom_model.specs.Worlds.World.{World};
@@ -14,8 +14,8 @@ use crate::status::{HP_CLOSED, HP_ENDED, HP_OK, status_of_own};
 use dom_session::{Links, NodeId};
 use dom_wire::OwnError;
 
-/// A node: the standard's number of its kind (`nodeType`), its node document, the nodes above, beside and below it, or `HP_NONE`, how
-/// many children it has, and its length.
+/// A node: the standard's number of its kind (`nodeType`), its node document, its parent, siblings and first and last child, or
+/// `HP_NONE`, the number of its children, and its length.
 #[repr(C)]
 #[derive(Clone, Copy, Debug)]
 pub struct NodeLinks {
@@ -30,7 +30,7 @@ pub struct NodeLinks {
     pub length: usize,
 }
 
-// What stands around a node, as C reads it.
+// Returns the neighbours of a node, as C reads them.
 fn node_links(links: Links) -> NodeLinks
     ensures { result ≡ node_links links }
 {
@@ -48,7 +48,7 @@ fn node_links(links: Links) -> NodeLinks
 }
 
 impl Kept {
-    /// The status of what was found: `HP_OK`, or `HP_ENDED` once the session has ended.
+    /// Returns the status of an answer that was found: `HP_OK`, or `HP_ENDED` once the session has ended.
     pub(crate) fn found(&self) -> u8
         ensures { result ≡ found_at self.now.ended }
     {
@@ -100,7 +100,7 @@ impl Kept {
     }
 }
 
-/// What a node is, and what stands around it: all of it at once, in constant time.
+/// Writes a node's kind and its neighbours, all at once, in constant time.
 #[unsafe(no_mangle)]
 pub extern "C" fn hp_links(handle: &mut Handle, node: u32, links: &mut NodeLinks) -> u8
     ensures kept { handle.new.slot.kept ≡ handle.old.slot.kept }
@@ -119,7 +119,7 @@ pub extern "C" fn hp_links(handle: &mut Handle, node: u32, links: &mut NodeLinks
     }
 }
 
-/// The first child of a node, or `HP_NONE`, in constant time.
+/// Writes the first child of a node, or `HP_NONE`, in constant time.
 #[unsafe(no_mangle)]
 pub extern "C" fn hp_first_child(handle: &mut Handle, node: u32, child: &mut u32) -> u8
     ensures kept { handle.new.slot.kept ≡ handle.old.slot.kept }
@@ -138,7 +138,7 @@ pub extern "C" fn hp_first_child(handle: &mut Handle, node: u32, child: &mut u32
     }
 }
 
-/// The last child of a node, or `HP_NONE`, in constant time.
+/// Writes the last child of a node, or `HP_NONE`, in constant time.
 #[unsafe(no_mangle)]
 pub extern "C" fn hp_last_child(handle: &mut Handle, node: u32, child: &mut u32) -> u8
     ensures kept { handle.new.slot.kept ≡ handle.old.slot.kept }
@@ -157,7 +157,7 @@ pub extern "C" fn hp_last_child(handle: &mut Handle, node: u32, child: &mut u32)
     }
 }
 
-/// The child of a node at an index, or `HP_NONE` where there are no more than that. It goes there from the nearer end.
+/// Writes the child of a node at an index, or `HP_NONE` past the last. It walks from the nearer end.
 #[unsafe(no_mangle)]
 pub extern "C" fn hp_child_at(handle: &mut Handle, node: u32, index: usize, child: &mut u32) -> u8
     ensures kept { handle.new.slot.kept ≡ handle.old.slot.kept }
@@ -176,8 +176,8 @@ pub extern "C" fn hp_child_at(handle: &mut Handle, node: u32, index: usize, chil
     }
 }
 
-/// Copies the numbers of the children of a node into an array, as many as there is room for, and writes how many children there are,
-/// which may be more. What stands in the array behind them stays.
+/// Copies the numbers of a node's children into an array, as many as there is room for, and writes the number of children, which may
+/// be larger. The rest of the array stays.
 #[unsafe(no_mangle)]
 pub extern "C" fn hp_children_into(
     handle: &mut Handle,

@@ -1,4 +1,4 @@
-//! Who was told of records of mutations, the answer of `hp_notify`.
+//! The notified observers, the answer of `hp_notify`.
 
 ghost use Rattle.std.specs.Prelude.{◌≡◌, ℕ, Option, option_and_then};
 ghost use Rattle.dom_wire.specs.Sessions.{answer_view};
@@ -12,7 +12,7 @@ use crate::status::{HP_CLOSED, HP_NOT_THERE, HP_OK, HP_OUT_OF_MEMORY};
 use dom_session::Answer;
 use dom_wire::Reply;
 
-/// What an observer is told: its number, and how many records.
+/// A notice: the number of the observer, and the number of its records.
 #[repr(C)]
 #[derive(Clone, Copy, Debug)]
 pub struct Notice {
@@ -46,7 +46,7 @@ impl Kept {
     }
 }
 
-/// The observer that `hp_notify` told at an index, and how many records.
+/// Writes the observer that `hp_notify` notified at an index, and the number of its records.
 #[unsafe(no_mangle)]
 pub extern "C" fn hp_notice_at(handle: &mut Handle, index: usize, notice: &mut Notice) -> u8
     ensures kept { handle.new.slot.kept ≡ handle.old.slot.kept }

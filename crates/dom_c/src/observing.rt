@@ -45,7 +45,7 @@ fn read_observe(
     )))
 }
 
-/// Lets an observer watch a node.
+/// Registers an observer at a node.
 #[unsafe(no_mangle)]
 pub extern "C" fn hp_observe(
     handle: &mut Handle,
@@ -63,7 +63,7 @@ pub extern "C" fn hp_observe(
     handle.take(read_observe(alloc, observer, node, options, names, lengths))
 }
 
-/// Lets an observer watch nothing more.
+/// Removes all registrations and records of an observer.
 #[unsafe(no_mangle)]
 pub extern "C" fn hp_disconnect(handle: &mut Handle, observer: u32) -> u8
     ensures { Answers handle.old handle.new (Ok (Disconnect observer)) result }
@@ -71,7 +71,7 @@ pub extern "C" fn hp_disconnect(handle: &mut Handle, observer: u32) -> u8
     handle.take(Ok(Command::Observing(Observing::Disconnect(ObserverId::new(observer)))))
 }
 
-/// Takes the records of an observer: `hp_count` counts them, `hp_record_at` and the calls of its kind read them, as those of notice 0.
+/// Takes the records of an observer: `hp_count` counts them, `hp_record_at` and the other record calls read them, as those of notice 0.
 #[unsafe(no_mangle)]
 pub extern "C" fn hp_take_records(handle: &mut Handle, observer: u32) -> u8
     ensures { Answers handle.old handle.new (Ok (TakeRecords observer)) result }
@@ -79,7 +79,7 @@ pub extern "C" fn hp_take_records(handle: &mut Handle, observer: u32) -> u8
     handle.take(Ok(Command::Observing(Observing::TakeRecords(ObserverId::new(observer)))))
 }
 
-/// Hands its records to each observer that waits: `hp_count` counts the observers, `hp_notice_at` and `hp_record_at` read what each is told.
+/// Gives each pending observer its records: `hp_count` counts the observers, `hp_notice_at` and `hp_record_at` read the notices.
 #[unsafe(no_mangle)]
 pub extern "C" fn hp_notify(handle: &mut Handle) -> u8
     ensures { Answers handle.old handle.new (Ok Notify) result }
@@ -87,7 +87,7 @@ pub extern "C" fn hp_notify(handle: &mut Handle) -> u8
     handle.take(Ok(Command::Observing(Observing::Notify)))
 }
 
-/// The observers that wait to be told: `hp_count` and `hp_number_at` read the answer.
+/// Finds the pending observers: `hp_count` and `hp_number_at` read the answer.
 #[unsafe(no_mangle)]
 pub extern "C" fn hp_pending(handle: &mut Handle) -> u8
     ensures { Answers handle.old handle.new (Ok Pending) result }
@@ -95,8 +95,8 @@ pub extern "C" fn hp_pending(handle: &mut Handle) -> u8
     handle.take(Ok(Command::Observing(Observing::Pending)))
 }
 
-/// Takes the observers that wait to be told, of whom none waits any more: `hp_count` and `hp_number_at` read them. Their records wait on for
-/// `hp_tell_observer`, which tells each in its turn.
+/// Takes the pending observers, and none is pending afterwards: `hp_count` and `hp_number_at` read them. Their records stay queued for
+/// `hp_tell_observer`, which notifies each in its turn.
 #[unsafe(no_mangle)]
 pub extern "C" fn hp_take_pending(handle: &mut Handle) -> u8
     ensures { Answers handle.old handle.new (Ok TakePending) result }
@@ -104,7 +104,7 @@ pub extern "C" fn hp_take_pending(handle: &mut Handle) -> u8
     handle.take(Ok(Command::Observing(Observing::TakePending)))
 }
 
-/// Tells an observer in its turn: takes its records, which are read as those of `hp_take_records`, and ends its transient registrations.
+/// Notifies an observer in its turn: takes its records, which are read as those of `hp_take_records`, and removes its transient registrations.
 #[unsafe(no_mangle)]
 pub extern "C" fn hp_tell_observer(handle: &mut Handle, observer: u32) -> u8
     ensures { Answers handle.old handle.new (Ok (TellObserver observer)) result }
@@ -112,7 +112,7 @@ pub extern "C" fn hp_tell_observer(handle: &mut Handle, observer: u32) -> u8
     handle.take(Ok(Command::Observing(Observing::TellObserver(ObserverId::new(observer)))))
 }
 
-/// Lets an observer go: it watches nothing more, and the records that wait for it are dropped.
+/// Releases an observer: its registrations are removed, and its queued records are dropped.
 #[unsafe(no_mangle)]
 pub extern "C" fn hp_release_observer(handle: &mut Handle, observer: u32) -> u8
     ensures { Answers handle.old handle.new (Ok (ReleaseObserver observer)) result }

@@ -1,4 +1,4 @@
-//! How a session is opened and closed.
+//! Opening and closing a session.
 
 ghost use Rattle.std.specs.Prelude.{◌≡◌, ◌≤◌, IfOk};
 ghost use Rattle.dom_wire.specs.Sessions.{bounds_of};
@@ -12,7 +12,7 @@ use dom_wire::{Limits, Session};
 use std::alloc::{AllocError, Global};
 use std_alloc::room::Vacant;
 
-// A session of these limits, with no reply yet.
+// Returns a session of these limits, without a reply yet.
 fn new_kept(alloc: Global, limits: Limits) -> Result<Kept, AllocError>
     requires numbers { (1 ≤ limits.numbers) × (limits.numbers ≤ 4294967295) }
     requires line { 1 ≤ limits.line }
@@ -31,8 +31,8 @@ fn new_kept(alloc: Global, limits: Limits) -> Result<Kept, AllocError>
     }
 }
 
-/// Opens a session in a closed handle, whose node 0 is a Document. Each kind of object gets so many numbers (1 to 4294967295),
-/// and a line may have so many bytes (at least 1).
+/// Opens a session in a closed handle, whose node 0 is a Document. `numbers` is how many numbers each kind of object has (1 to
+/// 4294967295), and `line` how many bytes a line may have (at least 1).
 #[unsafe(no_mangle)]
 pub extern "C" fn hp_open(handle: &mut Handle, alloc: Global, numbers: u64, line: usize) -> u8
     ensures { Opens handle.old handle.new (record { numbers = numbers; line = line }) result }
@@ -59,7 +59,7 @@ pub extern "C" fn hp_open(handle: &mut Handle, alloc: Global, numbers: u64, line
     }
 }
 
-/// Frees the session and all that it keeps. The handle is closed from then on, as it was where it was closed already.
+/// Frees the session and everything that it owns. Afterwards the handle is closed; a closed handle stays so.
 #[unsafe(no_mangle)]
 pub extern "C" fn hp_close(handle: &mut Handle, alloc: Global) -> u8
     ensures { Closes handle.old handle.new result }

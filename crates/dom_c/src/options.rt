@@ -1,4 +1,4 @@
-//! The options of a mutation observer, as C hands them.
+//! The options of a mutation observer, as C passes them.
 
 ghost use Rattle.std.specs.Prelude.{◌≡◌, [], map, option_map, string_bytes};
 ghost use Rattle.dom_c.specs.Reads.{Reads};
@@ -9,8 +9,8 @@ use crate::reading::{choice_of, name_of};
 use dom_session::RawOptions;
 use std::alloc::Global;
 
-/// The members of `MutationObserverInit`: 0 for false, 1 for true, 2 for absent. Of the attribute filter 0 for absent, and
-/// 1 for the names that are handed beside.
+/// The members of `MutationObserverInit`: 0 for false, 1 for true, 2 for absent. The attribute filter is 0 if absent, and
+/// 1 if its names are passed beside.
 #[repr(C)]
 #[derive(Clone, Copy, Debug)]
 pub struct Options {
@@ -23,7 +23,7 @@ pub struct Options {
     pub attribute_filter: u8,
 }
 
-// Names that lie one after the other, by the length of each.
+// Reads names that are stored one after the other, by the length of each.
 fn names_of(alloc: Global, names: &[u8], lengths: &[u32]) -> Result<Vec<String>, Fault>
     ensures { Reads (λ given. map string_bytes given.items) result
         (names_from [] lengths.now names.now) }
@@ -65,7 +65,7 @@ fn filter_of(
     }
 }
 
-/// The options, with the names of their attribute filter.
+/// Returns the options, with the names of their attribute filter.
 pub(crate) fn options_of(
     alloc: Global,
     options: &Options,

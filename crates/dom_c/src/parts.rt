@@ -1,4 +1,4 @@
-//! What is read of the last answer: its text, and its parts by their index.
+//! Reading the last answer: its text, and its parts by their index.
 
 ghost use Rattle.std.specs.Prelude.{◌≡◌, List, ℕ, Option, length, option_map, option_and_then, slice_get, string_bytes};
 ghost use Rattle.dom_wire.specs.Sessions.{answer_view};
@@ -12,7 +12,7 @@ use crate::status::{HP_CLOSED, HP_NOT_THERE, HP_OK, HP_OUT_OF_MEMORY};
 use dom_session::Answer;
 use dom_wire::Reply;
 
-// How many parts an answer has, where it is one of parts.
+// Returns the number of parts of an answer, if it has parts.
 fn count_of(answer: &Answer) -> Option<usize>
     ensures { result ≡ count_in (answer_view answer.now) }
 {
@@ -88,7 +88,7 @@ impl Kept {
     }
 }
 
-/// How many parts the last answer has: numbers, names, rows, records or notices.
+/// Writes the number of parts of the last answer: numbers, names, rows, records or notices.
 #[unsafe(no_mangle)]
 pub extern "C" fn hp_count(handle: &mut Handle, count: &mut usize) -> u8
     ensures kept { handle.new.slot.kept ≡ handle.old.slot.kept }
@@ -111,7 +111,7 @@ pub extern "C" fn hp_count(handle: &mut Handle, count: &mut usize) -> u8
     }
 }
 
-/// The number at an index of the last answer.
+/// Writes the number at an index of the last answer.
 #[unsafe(no_mangle)]
 pub extern "C" fn hp_number_at(handle: &mut Handle, index: usize, number: &mut u32) -> u8
     ensures kept { handle.new.slot.kept ≡ handle.old.slot.kept }
@@ -135,8 +135,8 @@ pub extern "C" fn hp_number_at(handle: &mut Handle, index: usize, number: &mut u
     }
 }
 
-/// Copies the numbers of the last answer into an array, as many as there is room for, and writes how many there are, which may be more.
-/// What stands in the array behind them stays.
+/// Copies the numbers of the last answer into an array, as many as there is room for, and writes their count, which may be larger.
+/// The rest of the array stays.
 #[unsafe(no_mangle)]
 pub extern "C" fn hp_numbers_into(handle: &mut Handle, numbers: &mut [u32], count: &mut usize) -> u8
     ensures kept { handle.new.slot.kept ≡ handle.old.slot.kept }

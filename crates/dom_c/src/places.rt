@@ -1,4 +1,4 @@
-//! Where things stand, as C reads it.
+//! Positions of ranges, iterators, walkers and nodes, as C reads them.
 
 /// The start and the end of a live range.
 #[repr(C)]
@@ -21,7 +21,7 @@ pub struct StaticEnds {
     pub is_valid: u8,
 }
 
-/// The root and the reference of an iterator, and whether it stands before the reference: 0 or 1.
+/// The root and the reference of an iterator, and whether its pointer is before the reference: 0 or 1.
 #[repr(C)]
 #[derive(Clone, Copy, Debug)]
 pub struct IteratorAt {
@@ -38,7 +38,7 @@ pub struct WalkerAt {
     pub current: u32,
 }
 
-/// The node document, the kind by the standard's number (`nodeType`), and the nodes beside and above, or `HP_NONE`.
+/// The node document, the kind by the standard's number (`nodeType`), and the siblings and the parent, or `HP_NONE`.
 #[repr(C)]
 #[derive(Clone, Copy, Debug)]
 pub struct Place {

@@ -1,4 +1,4 @@
-//! What is written of an answer through the pointers of C: where things stand.
+//! Writing positions of an answer through the pointers of C.
 
 ghost use Rattle.std.specs.Prelude.{◌≡◌, ℕ, Result, Ok, Some};
 ghost use Rattle.dom_model.specs.Commands.Command.{Command as PlainCommand};
@@ -19,7 +19,7 @@ use dom_kinds::NodeType;
 use dom_session::{Answer, Kind, NodeId, Reading};
 use dom_wire::{Command, Reply};
 
-/// The number of a node, or `HP_NONE`.
+/// Returns the number of a node, or `HP_NONE`.
 pub(crate) fn node_number(node: Option<NodeId>) -> u32
     ensures { result ≡ number_or_null node }
 {
@@ -29,7 +29,7 @@ pub(crate) fn node_number(node: Option<NodeId>) -> u32
     }
 }
 
-/// The standard's number of a kind.
+/// Returns the standard's number of a kind.
 pub(crate) fn kind_number(kind: Kind) -> u8
     ensures { result ≡ number_of_kind kind }
 {
@@ -65,7 +65,7 @@ fn write_static_ends(answer: &Answer, ends: &mut StaticEnds)
     }
 }
 
-// Writes where an iterator stands.
+// Writes the position of an iterator.
 fn write_iterator_at(answer: &Answer, place: &mut IteratorAt)
     ensures { place.new ≡ iterator_at_told (Some (answer_view answer.now)) place.old }
 {
@@ -78,7 +78,7 @@ fn write_iterator_at(answer: &Answer, place: &mut IteratorAt)
     }
 }
 
-// Writes where a walker stands.
+// Writes the current node of a walker.
 fn write_walker_at(answer: &Answer, place: &mut WalkerAt)
     ensures { place.new ≡ walker_at_told (Some (answer_view answer.now)) place.old }
 {
@@ -90,7 +90,7 @@ fn write_walker_at(answer: &Answer, place: &mut WalkerAt)
     }
 }
 
-// Writes where a node stands, and of which kind it is.
+// Writes a node's kind and its neighbours.
 fn write_place(answer: &Answer, place: &mut Place)
     ensures { place.new ≡ place_told (Some (answer_view answer.now)) place.old }
 {
@@ -128,7 +128,7 @@ impl Kept {
         }
     }
 
-    // Writes where an iterator stands.
+    // Writes the position of an iterator.
     fn write_iterator_at(&self, status: u8, place: &mut IteratorAt)
         ensures { place.new ≡ iterator_at_told (told_of self.now status) place.old }
     {
@@ -139,7 +139,7 @@ impl Kept {
         }
     }
 
-    // Writes where a walker stands.
+    // Writes the current node of a walker.
     fn write_walker_at(&self, status: u8, place: &mut WalkerAt)
         ensures { place.new ≡ walker_at_told (told_of self.now status) place.old }
     {
@@ -150,7 +150,7 @@ impl Kept {
         }
     }
 
-    // Writes where a node stands, and of which kind it is.
+    // Writes a node's kind and its neighbours.
     fn write_place(&self, status: u8, place: &mut Place)
         ensures { place.new ≡ place_told (told_of self.now status) place.old }
     {
@@ -190,7 +190,7 @@ impl Handle {
         status
     }
 
-    /// Answers a question. Writes where an iterator stands.
+    /// Answers a question. Writes the position of an iterator.
     pub(crate) fn read_iterator_at(&mut self, question: Reading, place: &mut IteratorAt) -> u8
         ensures answers { Asks self.old self.new (Ok (reading_view question)) result }
         ensures told { place.new ≡ iterator_at_told (told self.new (as_answered result)) place.old }
@@ -205,7 +205,7 @@ impl Handle {
         status
     }
 
-    /// Answers a question. Writes where a walker stands.
+    /// Answers a question. Writes the current node of a walker.
     pub(crate) fn read_walker_at(&mut self, question: Reading, place: &mut WalkerAt) -> u8
         ensures answers { Asks self.old self.new (Ok (reading_view question)) result }
         ensures told { place.new ≡ walker_at_told (told self.new (as_answered result)) place.old }
@@ -220,7 +220,7 @@ impl Handle {
         status
     }
 
-    /// Takes a command. Writes where a node stands, and of which kind it is.
+    /// Applies a command. Writes a node's kind and its neighbours.
     pub(crate) fn take_place(&mut self, command: Result<Command, Fault>, place: &mut Place) -> u8
         ensures answers { (c : Result PlainCommand ℕ) → Reads command_view command c →
             Answers self.old self.new c result }

@@ -32,7 +32,7 @@ pub extern "C" fn hp_compare_boundary_points(
     )
 }
 
-/// Whether a point is before, in or after a range: -1, 0 or 1.
+/// Writes whether a point is before, in or after a range: -1, 0 or 1.
 #[unsafe(no_mangle)]
 pub extern "C" fn hp_compare_point(
     handle: &mut Handle,
@@ -54,7 +54,7 @@ pub extern "C" fn hp_compare_point(
     )
 }
 
-/// Whether a point is in a range.
+/// Writes whether a point is in a range.
 #[unsafe(no_mangle)]
 pub extern "C" fn hp_is_point_in_range(
     handle: &mut Handle,
@@ -76,7 +76,7 @@ pub extern "C" fn hp_is_point_in_range(
     )
 }
 
-/// Whether a range and a node meet.
+/// Writes whether a range intersects a node.
 #[unsafe(no_mangle)]
 pub extern "C" fn hp_intersects_node(
     handle: &mut Handle,
@@ -93,7 +93,7 @@ pub extern "C" fn hp_intersects_node(
     )
 }
 
-/// The deepest node that has both ends in it.
+/// Writes the deepest inclusive ancestor of both ends.
 #[unsafe(no_mangle)]
 pub extern "C" fn hp_common_ancestor(handle: &mut Handle, range: u32, ancestor: &mut u32) -> u8
     ensures answers { Answers handle.old handle.new (Ok (CommonAncestor range)) result }

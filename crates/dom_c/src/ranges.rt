@@ -35,7 +35,7 @@ pub extern "C" fn hp_clone_range(handle: &mut Handle, range: u32, copy: &mut u32
     )
 }
 
-/// The ends of a live range.
+/// Writes the ends of a live range.
 #[unsafe(no_mangle)]
 pub extern "C" fn hp_range(handle: &mut Handle, range: u32, ends: &mut Ends) -> u8
     ensures answers { Asks handle.old handle.new (Ok (DescribeRange range)) result }
@@ -122,7 +122,7 @@ pub extern "C" fn hp_select_node(handle: &mut Handle, range: u32, node: u32) -> 
     handle.take(Ok(Command::Setting(Setting::SelectNode(RangeId::new(range), NodeId::new(node)))))
 }
 
-/// Sets the ends around what a node has.
+/// Sets the ends around the contents of a node.
 #[unsafe(no_mangle)]
 pub extern "C" fn hp_select_node_contents(handle: &mut Handle, range: u32, node: u32) -> u8
     ensures { Answers handle.old handle.new (Ok (SelectNodeContents range node)) result }
@@ -133,7 +133,7 @@ pub extern "C" fn hp_select_node_contents(handle: &mut Handle, range: u32, node:
     ))))
 }
 
-/// Lets a live range go.
+/// Releases a live range.
 #[unsafe(no_mangle)]
 pub extern "C" fn hp_release_range(handle: &mut Handle, range: u32) -> u8
     ensures { Answers handle.old handle.new (Ok (ReleaseRange range)) result }

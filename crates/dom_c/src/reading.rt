@@ -1,4 +1,4 @@
-//! How the arguments of C are read.
+//! Reading the arguments of C.
 
 ghost use Rattle.std.specs.Prelude.{◌≡◌, Ok, string_bytes};
 ghost use Rattle.dom_c.specs.Reads.{Reads, name_in, number_or_none, choice_in, move_in};
@@ -8,7 +8,7 @@ use crate::status::HP_NONE;
 use dom_session::{Move, NodeId, Units};
 use std::alloc::Global;
 
-/// A name where it lies, which is UTF-8.
+/// Borrows a name, which is UTF-8.
 pub(crate) fn lent_name(bytes: &[u8]) -> Result<&str, Fault>
     ensures { Reads (λ name. name.now) result (name_in bytes.now) }
 {
@@ -18,7 +18,7 @@ pub(crate) fn lent_name(bytes: &[u8]) -> Result<&str, Fault>
     }
 }
 
-/// A name, which is UTF-8.
+/// Returns a copy of a name, which is UTF-8.
 pub(crate) fn name_of(alloc: Global, bytes: &[u8]) -> Result<String, Fault>
     ensures { Reads string_bytes result (name_in bytes.now) }
 {
@@ -31,7 +31,7 @@ pub(crate) fn name_of(alloc: Global, bytes: &[u8]) -> Result<String, Fault>
     }
 }
 
-/// A text.
+/// Returns a copy of a text.
 pub(crate) fn units_of(alloc: Global, units: &[u16]) -> Result<Units, Fault>
     ensures { Reads (λ text. text) result (Ok units.now) }
 {
@@ -41,7 +41,7 @@ pub(crate) fn units_of(alloc: Global, units: &[u16]) -> Result<Units, Fault>
     }
 }
 
-/// The node of a number, or none.
+/// Returns the node of a number, or none.
 pub(crate) fn node_or_none(number: u32) -> Option<NodeId>
     ensures { result ≡ number_or_none number }
 {
@@ -51,7 +51,7 @@ pub(crate) fn node_or_none(number: u32) -> Option<NodeId>
     Some(NodeId::new(number))
 }
 
-/// A yes or a no, or neither.
+/// Returns true, false or neither.
 pub(crate) fn choice_of(number: u8) -> Result<Option<bool>, Fault>
     ensures { Reads (λ choice. choice) result (choice_in number) }
 {
@@ -63,7 +63,7 @@ pub(crate) fn choice_of(number: u8) -> Result<Option<bool>, Fault>
     }
 }
 
-/// The move of a walker.
+/// Returns the move of a walker.
 pub(crate) fn move_of(number: u8) -> Result<Move, Fault>
     ensures { Reads (λ direction. direction) result (move_in number) }
 {

@@ -1,4 +1,4 @@
-//! What is read of records of mutations, the answers of `hp_notify` and `hp_take_records`.
+//! Reading records of mutations, the answers of `hp_notify` and `hp_take_records`.
 
 ghost use Rattle.std.specs.Prelude.{◌≡◌, List, ℕ, Option, length, map, slice_get, option_map, option_and_then};
 ghost use Rattle.dom_model.specs.MutationObservers.Record.{Record as PlainRecord};
@@ -16,15 +16,15 @@ use crate::status::{HP_CLOSED, HP_NOT_THERE, HP_OK, HP_OUT_OF_MEMORY};
 use dom_session::{Answer, NodeId, Record as MutationRecord, RecordType};
 use dom_wire::Reply;
 
-/// The record tells of an attribute.
+/// The record of an attribute.
 pub const HP_ATTRIBUTES: u8 = 0;
-/// The record tells of data.
+/// The record of data.
 pub const HP_CHARACTER_DATA: u8 = 1;
-/// The record tells of children.
+/// The record of children.
 pub const HP_CHILD_LIST: u8 = 2;
 
-/// A record: its type (`HP_ATTRIBUTES`, `HP_CHARACTER_DATA` or `HP_CHILD_LIST`), its target, how many nodes were added and removed, and the
-/// siblings beside them, or `HP_NONE`.
+/// A record: its type (`HP_ATTRIBUTES`, `HP_CHARACTER_DATA` or `HP_CHILD_LIST`), its target, the numbers of added and removed nodes, and
+/// the siblings beside them, or `HP_NONE`.
 #[repr(C)]
 #[derive(Clone, Copy, Debug)]
 pub struct Record {
@@ -36,7 +36,7 @@ pub struct Record {
     pub next: u32,
 }
 
-// The number of a type.
+// Returns the number of a type.
 fn type_number(what: RecordType) -> u8
     ensures { result ≡ type_number what }
 {
@@ -47,7 +47,7 @@ fn type_number(what: RecordType) -> u8
     }
 }
 
-// The records of a notice; those that were taken stand as the first.
+// Returns the records of a notice; those that were taken count as the first.
 fn records_in(answer: &Answer, notice: usize) -> Option<&[MutationRecord]>
     ensures { option_map (λ records. records.now) result
         ≡ records_in notice (answer_view answer.now) }
@@ -72,7 +72,7 @@ fn record_in(answer: &Answer, notice: usize, index: usize) -> Option<&MutationRe
     }
 }
 
-// A record as C reads it.
+// Returns a record as C reads it.
 fn record_told(found: &MutationRecord) -> Record
     ensures { result ≡ record_told found.now }
 {
@@ -196,7 +196,7 @@ impl Kept {
     }
 }
 
-/// The record at an index among those of a notice. The records that `hp_take_records` took stand as the notice 0.
+/// Writes the record at an index among those of a notice. The records that `hp_take_records` took count as notice 0.
 #[unsafe(no_mangle)]
 pub extern "C" fn hp_record_at(
     handle: &mut Handle,
@@ -225,8 +225,8 @@ pub extern "C" fn hp_record_at(
     }
 }
 
-/// Copies all records of a notice into an array, as many as there is room for, and writes how many there are, which may be more. What
-/// stands in the array behind them stays.
+/// Copies all records of a notice into an array, as many as there is room for, and writes their count, which may be larger. The rest of
+/// the array stays.
 #[unsafe(no_mangle)]
 pub extern "C" fn hp_records_into(
     handle: &mut Handle,
@@ -258,7 +258,7 @@ pub extern "C" fn hp_records_into(
     }
 }
 
-/// The node at a place among those that a record says were added.
+/// Writes the node at a place among the added nodes of a record.
 #[unsafe(no_mangle)]
 pub extern "C" fn hp_record_added_at(
     handle: &mut Handle,
@@ -287,7 +287,7 @@ pub extern "C" fn hp_record_added_at(
     }
 }
 
-/// The node at a place among those that a record says were removed.
+/// Writes the node at a place among the removed nodes of a record.
 #[unsafe(no_mangle)]
 pub extern "C" fn hp_record_removed_at(
     handle: &mut Handle,
@@ -317,7 +317,7 @@ pub extern "C" fn hp_record_removed_at(
     }
 }
 
-/// The name of the attribute that a record tells of, which is not there where it is null.
+/// Lends the attribute name of a record; there is none if it is null.
 #[unsafe(no_mangle)]
 pub extern "C" fn hp_record_name<'a>(
     handle: &'a mut Handle,
@@ -345,7 +345,7 @@ pub extern "C" fn hp_record_name<'a>(
     }
 }
 
-/// The old value that a record tells, which is not there where it is null.
+/// Lends the old value of a record; there is none if it is null.
 #[unsafe(no_mangle)]
 pub extern "C" fn hp_record_old_value<'a>(
     handle: &'a mut Handle,

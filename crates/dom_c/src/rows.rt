@@ -1,4 +1,4 @@
-//! What is read of the rows of a tree, the answer of `hp_tree`.
+//! Reading the rows of a tree, the answer of `hp_tree`.
 
 ghost use Rattle.std.specs.Prelude.{◌≡◌, List, ℕ, Option, option_map, option_and_then};
 ghost use Rattle.dom_model.specs.Commands.Reply.{TreeRow as PlainRow};
@@ -16,8 +16,8 @@ use dom_kinds::NodeType;
 use dom_session::{Answer, Kind, TreeRow};
 use dom_wire::Reply;
 
-/// A row of a tree: how deep the node stands below the one that was asked for, its number, the standard's number of its kind (`nodeType`),
-/// and how many attributes it has.
+/// A row of a tree: the node's depth below the printed root, its number, the standard's number of its kind (`nodeType`), and the number
+/// of its attributes.
 #[repr(C)]
 #[derive(Clone, Copy, Debug)]
 pub struct Row {
@@ -36,7 +36,7 @@ fn row_in(answer: &Answer, index: usize) -> Option<&TreeRow>
     }
 }
 
-// A row as C reads it.
+// Returns a row as C reads it.
 fn row_told(row: &TreeRow) -> Row
     ensures { result ≡ row_told row.now }
 {
@@ -48,7 +48,7 @@ fn row_told(row: &TreeRow) -> Row
     }
 }
 
-// The data, where the kind has data.
+// Borrows the data, if the kind has data.
 fn row_text_of(row: &TreeRow) -> Option<&[u16]>
     ensures { option_map (λ text. text.now) result ≡ row_text_of row.now }
 {
@@ -137,7 +137,7 @@ impl Kept {
     }
 }
 
-/// The row at an index of the last answer.
+/// Writes the row at an index of the last answer.
 #[unsafe(no_mangle)]
 pub extern "C" fn hp_row_at(handle: &mut Handle, index: usize, row: &mut Row) -> u8
     ensures kept { handle.new.slot.kept ≡ handle.old.slot.kept }
@@ -160,7 +160,7 @@ pub extern "C" fn hp_row_at(handle: &mut Handle, index: usize, row: &mut Row) ->
     }
 }
 
-/// A part of the name of the node of a row: 0 the name of an element or doctype, or the target of a processing instruction;
+/// Lends a part of the name of a row's node: 0 the name of an element or doctype, or the target of a processing instruction;
 /// 1 the public id and 2 the system id of a doctype.
 #[unsafe(no_mangle)]
 pub extern "C" fn hp_row_name<'a>(
@@ -189,7 +189,7 @@ pub extern "C" fn hp_row_name<'a>(
     }
 }
 
-/// The data of the node of a row, which a Text, a Comment and a ProcessingInstruction has.
+/// Lends the data of a row's node. A Text, a Comment and a ProcessingInstruction have data.
 #[unsafe(no_mangle)]
 pub extern "C" fn hp_row_text<'a>(handle: &'a mut Handle, index: usize, out: &mut Text<'a>) -> u8
     ensures status { result ≡ look_up_status handle.old (row_text_at index) }
@@ -212,7 +212,7 @@ pub extern "C" fn hp_row_text<'a>(handle: &'a mut Handle, index: usize, out: &mu
     }
 }
 
-/// The name of the attribute at a place among those of a row.
+/// Lends the name of the attribute at a place among those of a row.
 #[unsafe(no_mangle)]
 pub extern "C" fn hp_row_attribute_name<'a>(
     handle: &'a mut Handle,
@@ -240,7 +240,7 @@ pub extern "C" fn hp_row_attribute_name<'a>(
     }
 }
 
-/// The value of the attribute at a place among those of a row.
+/// Lends the value of the attribute at a place among those of a row.
 #[unsafe(no_mangle)]
 pub extern "C" fn hp_row_attribute_value<'a>(
     handle: &'a mut Handle,

@@ -1,4 +1,4 @@
-//! Where a session lies. These functions alone follow its pointer.
+//! The slot of a session. These functions alone follow its pointer.
 ghost use Rattle.std.specs.Prelude.{◌≡◌, Option, Some, None, IsSome};
 ghost use Rattle.std.specs.Borrow.{sem};
 ghost use Rattle.std.specs.Coded.{codes};
@@ -11,7 +11,7 @@ use std::alloc::Global;
 use std::marker::Model;
 use std_alloc::room::Vacant;
 
-/// The owner of what is kept on the heap, or of nothing. All zero bytes are an empty slot.
+/// The owner of a session's state on the heap, or of nothing. All zero bytes are an empty slot.
 #[repr(C)]
 pub struct Slot {
     at: *mut u8,

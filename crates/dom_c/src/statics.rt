@@ -41,7 +41,7 @@ pub extern "C" fn hp_create_static_range(
     )
 }
 
-/// The ends of a static range, and whether it is valid.
+/// Writes the ends of a static range, and whether it is valid.
 #[unsafe(no_mangle)]
 pub extern "C" fn hp_static_range(handle: &mut Handle, range: u32, ends: &mut StaticEnds) -> u8
     ensures answers { Asks handle.old handle.new (Ok (DescribeStaticRange range)) result }
@@ -50,7 +50,7 @@ pub extern "C" fn hp_static_range(handle: &mut Handle, range: u32, ends: &mut St
     handle.read_static_ends(Reading::StaticRange(StaticId::new(range)), ends)
 }
 
-/// Lets a static range go.
+/// Releases a static range.
 #[unsafe(no_mangle)]
 pub extern "C" fn hp_release_static_range(handle: &mut Handle, range: u32) -> u8
     ensures { Answers handle.old handle.new (Ok (ReleaseStaticRange range)) result }

@@ -9,7 +9,7 @@ ghost use Rattle.dom_c.specs.Told.{as_answered};
 use dom_session::{Brief, DomError};
 use dom_wire::{OwnError, Reply};
 
-/// The call did what it says.
+/// The call succeeded.
 pub const HP_OK: u8 = 0;
 
 pub const HP_INDEX_SIZE_ERROR: u8 = 1;
@@ -33,7 +33,7 @@ pub const HP_TYPE_ERROR: u8 = 32;
 pub const HP_NO_SUCH_OBJECT: u8 = 33;
 /// There is no number left for a new object.
 pub const HP_LIMIT: u8 = 34;
-/// What was to be discarded is still referred to.
+/// Something still refers to a node that was to be discarded.
 pub const HP_IN_USE: u8 = 35;
 
 pub const HP_LINE_TOO_LONG: u8 = 36;
@@ -43,7 +43,7 @@ pub const HP_BAD_JSON: u8 = 37;
 pub const HP_BAD_COMMAND: u8 = 38;
 
 pub const HP_BAD_ARGUMENTS: u8 = 39;
-/// Memory was wanting, now or at an earlier call: the session has ended. It takes no command, and what it holds can be read.
+/// Out of memory, now or at an earlier call: the session has ended. It takes no command, and its nodes can still be read.
 pub const HP_OUT_OF_MEMORY: u8 = 48;
 /// The handle is closed.
 pub const HP_CLOSED: u8 = 49;
@@ -53,13 +53,13 @@ pub const HP_ALREADY_OPEN: u8 = 50;
 pub const HP_BAD_LIMITS: u8 = 51;
 /// The bytes of a name are no UTF-8.
 pub const HP_NOT_UTF8: u8 = 52;
-/// Lengths and what they measure do not belong together.
+/// Lengths do not fit the bytes or units that they measure.
 pub const HP_BAD_LENGTHS: u8 = 53;
 /// A number stands for none of the choices.
 pub const HP_BAD_CHOICE: u8 = 54;
 /// The last answer, or the node, has no such part.
 pub const HP_NOT_THERE: u8 = 55;
-/// The session has ended, since memory was wanting once. The answer is of what it holds.
+/// The session has ended, as it was out of memory once. The answer is from the world it still holds.
 pub const HP_ENDED: u8 = 56;
 
 /// The number that stands for null; no object has it.
@@ -81,7 +81,7 @@ fn status_of_dom(error: DomError) -> u8
     }
 }
 
-/// The status of a refusal that is none of the standard's.
+/// Returns the status of a refusal that is not one of the standard's.
 pub(crate) fn status_of_own(error: OwnError) -> u8
     ensures { result ≡ status_of_own error }
 {
@@ -96,7 +96,7 @@ pub(crate) fn status_of_own(error: OwnError) -> u8
     }
 }
 
-/// The status of a reply.
+/// Returns the status of a reply.
 pub fn status_of(reply: &Reply) -> u8
     ensures { result ≡ status_of (reply_view reply.now) }
 {
@@ -106,7 +106,7 @@ pub fn status_of(reply: &Reply) -> u8
     }
 }
 
-/// The status of a reply whose answer is small.
+/// Returns the status of a reply with a small answer.
 pub(crate) fn status_of_brief(brief: Brief) -> u8
     ensures { result ≡ status_of (reply_view (reply_of brief)) }
 {
@@ -117,7 +117,7 @@ pub(crate) fn status_of_brief(brief: Brief) -> u8
     }
 }
 
-// The status of a small answer of a session that has ended.
+// Returns the status of a small answer of a session that has ended.
 fn brief_at_end(brief: Brief) -> u8
     ensures { result ≡ status_at_end (reply_view (reply_of brief)) }
 {
@@ -128,7 +128,7 @@ fn brief_at_end(brief: Brief) -> u8
     }
 }
 
-/// The status of a reply of a session that has ended.
+/// Returns the status of a reply of a session that has ended.
 pub(crate) fn status_at_end(reply: &Reply) -> u8
     ensures { result ≡ status_at_end (reply_view reply.now) }
 {
@@ -138,7 +138,7 @@ pub(crate) fn status_at_end(reply: &Reply) -> u8
     }
 }
 
-/// The status that an answer has while a session goes on.
+/// Returns the status of an answer while a session goes on.
 pub(crate) fn as_answered(status: u8) -> u8
     ensures { result ≡ as_answered status }
 {

@@ -1,4 +1,4 @@
-//! What is written of an answer through the pointers of C: numbers, flags and orders.
+//! Writing numbers, flags and orders of an answer through the pointers of C.
 
 ghost use Rattle.std.specs.Prelude.{◌≡◌, ℕ, Result, Ok, Some};
 ghost use Rattle.dom_model.specs.Commands.Command.{Command as PlainCommand};
@@ -15,7 +15,7 @@ use dom_session::{Answer, Brief, Reading};
 use dom_wire::{Command, Reply};
 use std::cmp::Ordering;
 
-/// 1 for a yes, and 0 for a no.
+/// Returns 1 for true, and 0 for false.
 pub(crate) fn flag_number(flag: bool) -> u8
     ensures { result ≡ flag_number flag }
 {
@@ -32,7 +32,7 @@ fn order_number(order: Ordering) -> i8
     }
 }
 
-// A number, or `HP_NONE`.
+// Returns a number, or `HP_NONE`.
 fn number_or_null(number: Option<u32>) -> u32
     ensures { result ≡ number_or_null number }
 {
@@ -68,7 +68,7 @@ fn write_count(reply: &Reply, count: &mut usize)
     }
 }
 
-// Writes a yes or a no: 1 or 0.
+// Writes true or false: 1 or 0.
 fn write_flag(answer: &Answer, flag: &mut u8)
     ensures { flag.new ≡ flag_told (Some (answer_view answer.now)) flag.old }
 {
@@ -77,7 +77,7 @@ fn write_flag(answer: &Answer, flag: &mut u8)
     }
 }
 
-// Writes how one place stands to another: -1, 0 or 1.
+// Writes the relative position of two places: -1, 0 or 1.
 fn write_order(answer: &Answer, order: &mut i8)
     ensures { order.new ≡ order_told (Some (answer_view answer.now)) order.old }
 {
@@ -120,7 +120,7 @@ impl Kept {
         }
     }
 
-    /// Writes a yes or a no: 1 or 0.
+    /// Writes true or false: 1 or 0.
     pub(crate) fn write_flag(&self, status: u8, flag: &mut u8)
         ensures { flag.new ≡ flag_told (told_of self.now status) flag.old }
     {
@@ -131,7 +131,7 @@ impl Kept {
         }
     }
 
-    // Writes how one place stands to another: -1, 0 or 1.
+    // Writes the relative position of two places: -1, 0 or 1.
     fn write_order(&self, status: u8, order: &mut i8)
         ensures { order.new ≡ order_told (told_of self.now status) order.old }
     {
@@ -144,7 +144,7 @@ impl Kept {
 }
 
 impl Handle {
-    /// Takes a command. Writes a number.
+    /// Applies a command. Writes a number.
     pub(crate) fn take_number(&mut self, command: Result<Command, Fault>, number: &mut u32) -> u8
         ensures answers { (c : Result PlainCommand ℕ) → Reads command_view command c →
             Answers self.old self.new c result }
@@ -187,7 +187,7 @@ impl Handle {
         status
     }
 
-    /// Takes a command. Writes a yes or a no: 1 or 0.
+    /// Applies a command. Writes true or false: 1 or 0.
     pub(crate) fn take_flag(&mut self, command: Result<Command, Fault>, flag: &mut u8) -> u8
         ensures answers { (c : Result PlainCommand ℕ) → Reads command_view command c →
             Answers self.old self.new c result }
@@ -200,7 +200,7 @@ impl Handle {
         status
     }
 
-    /// Takes a command. Writes how one place stands to another: -1, 0 or 1.
+    /// Applies a command. Writes the relative position of two places: -1, 0 or 1.
     pub(crate) fn take_order(&mut self, command: Result<Command, Fault>, order: &mut i8) -> u8
         ensures answers { (c : Result PlainCommand ℕ) → Reads command_view command c →
             Answers self.old self.new c result }

@@ -14,7 +14,7 @@ use dom_session::{NodeId, Texts};
 use dom_wire::Command;
 use std::alloc::Global;
 
-/// The data of a node: `hp_text` reads the answer.
+/// Finds the data of a node: `hp_text` reads the answer.
 #[unsafe(no_mangle)]
 pub extern "C" fn hp_data(handle: &mut Handle, node: u32) -> u8
     ensures { Answers handle.old handle.new (Ok (GetData node)) result }
@@ -79,7 +79,7 @@ pub extern "C" fn hp_insert_data(
     handle.take(read_insert_data(alloc, node, offset, data))
 }
 
-/// Deletes so many units from an offset on.
+/// Deletes a number of units from an offset on.
 #[unsafe(no_mangle)]
 pub extern "C" fn hp_delete_data(handle: &mut Handle, node: u32, offset: u32, count: u32) -> u8
     ensures { Answers handle.old handle.new (Ok (DeleteData node offset count)) result }
@@ -102,7 +102,7 @@ fn read_replace_data(
     Ok(Command::Texts(Texts::ReplaceData(NodeId::new(node), offset, count, data)))
 }
 
-/// Puts a text in place of so many units from an offset on.
+/// Replaces a number of units from an offset on by a text.
 #[unsafe(no_mangle)]
 pub extern "C" fn hp_replace_data(
     handle: &mut Handle,
@@ -117,7 +117,7 @@ pub extern "C" fn hp_replace_data(
     handle.take(read_replace_data(alloc, node, offset, count, data))
 }
 
-/// So many units from an offset on: `hp_text` reads the answer.
+/// Finds a number of units from an offset on: `hp_text` reads the answer.
 #[unsafe(no_mangle)]
 pub extern "C" fn hp_substring_data(handle: &mut Handle, node: u32, offset: u32, count: u32) -> u8
     ensures { Answers handle.old handle.new (Ok (SubstringData node offset count)) result }
@@ -125,7 +125,7 @@ pub extern "C" fn hp_substring_data(handle: &mut Handle, node: u32, offset: u32,
     handle.take(Ok(Command::Texts(Texts::SubstringData(NodeId::new(node), offset, count))))
 }
 
-/// Splits a Text at an offset, and tells the new one.
+/// Splits a Text at an offset, and writes the new one.
 #[unsafe(no_mangle)]
 pub extern "C" fn hp_split_text(handle: &mut Handle, text: u32, offset: u32, rest: &mut u32) -> u8
     ensures answers { Answers handle.old handle.new (Ok (SplitText text offset)) result }

@@ -98,7 +98,7 @@ pub extern "C" fn hp_create_walker(
     )
 }
 
-/// Tells where an iterator stands.
+/// Writes the position of an iterator.
 #[unsafe(no_mangle)]
 pub extern "C" fn hp_iterator(handle: &mut Handle, iterator: u32, place: &mut IteratorAt) -> u8
     ensures answers { Asks handle.old handle.new (Ok (DescribeIterator iterator)) result }
@@ -107,7 +107,7 @@ pub extern "C" fn hp_iterator(handle: &mut Handle, iterator: u32, place: &mut It
     handle.read_iterator_at(Reading::Iterator(IteratorId::new(iterator)), place)
 }
 
-/// Moves an iterator on, and tells the node, or `HP_NONE`.
+/// Moves an iterator on, and writes the node, or `HP_NONE`.
 #[unsafe(no_mangle)]
 pub extern "C" fn hp_next_node(handle: &mut Handle, iterator: u32, node: &mut u32) -> u8
     ensures answers { Answers handle.old handle.new (Ok (NextNode iterator)) result }
@@ -116,7 +116,7 @@ pub extern "C" fn hp_next_node(handle: &mut Handle, iterator: u32, node: &mut u3
     handle.next_node(IteratorId::new(iterator), node)
 }
 
-/// Moves an iterator back, and tells the node, or `HP_NONE`.
+/// Moves an iterator back, and writes the node, or `HP_NONE`.
 #[unsafe(no_mangle)]
 pub extern "C" fn hp_previous_node(handle: &mut Handle, iterator: u32, node: &mut u32) -> u8
     ensures answers { Answers handle.old handle.new (Ok (PreviousNode iterator)) result }
@@ -125,7 +125,7 @@ pub extern "C" fn hp_previous_node(handle: &mut Handle, iterator: u32, node: &mu
     handle.previous_node(IteratorId::new(iterator), node)
 }
 
-/// Tells where a walker stands.
+/// Writes the root and the current node of a walker.
 #[unsafe(no_mangle)]
 pub extern "C" fn hp_walker(handle: &mut Handle, walker: u32, place: &mut WalkerAt) -> u8
     ensures answers { Asks handle.old handle.new (Ok (DescribeWalker walker)) result }
@@ -145,7 +145,7 @@ pub extern "C" fn hp_set_current(handle: &mut Handle, walker: u32, node: u32) ->
     ))))
 }
 
-/// Moves a walker, and tells the node, or `HP_NONE`. The courses are numbered in the order of the standard: parentNode 0, firstChild 1, lastChild 2, previousSibling 3, nextSibling 4, previousNode 5, nextNode 6.
+/// Moves a walker, and writes the node, or `HP_NONE`. Moves are numbered in the order of the standard: parentNode 0, firstChild 1, lastChild 2, previousSibling 3, nextSibling 4, previousNode 5, nextNode 6.
 #[unsafe(no_mangle)]
 pub extern "C" fn hp_walk(handle: &mut Handle, walker: u32, direction: u8, node: &mut u32) -> u8
     ensures answers { Answers handle.old handle.new
@@ -155,7 +155,7 @@ pub extern "C" fn hp_walk(handle: &mut Handle, walker: u32, direction: u8, node:
     handle.walk(WalkerId::new(walker), move_of(direction), node)
 }
 
-/// Lets an iterator go.
+/// Releases an iterator.
 #[unsafe(no_mangle)]
 pub extern "C" fn hp_release_iterator(handle: &mut Handle, iterator: u32) -> u8
     ensures { Answers handle.old handle.new (Ok (ReleaseIterator iterator)) result }
@@ -163,7 +163,7 @@ pub extern "C" fn hp_release_iterator(handle: &mut Handle, iterator: u32) -> u8
     handle.take(Ok(Command::Traversing(Traversing::ReleaseIterator(IteratorId::new(iterator)))))
 }
 
-/// Lets a walker go.
+/// Releases a walker.
 #[unsafe(no_mangle)]
 pub extern "C" fn hp_release_walker(handle: &mut Handle, walker: u32) -> u8
     ensures { Answers handle.old handle.new (Ok (ReleaseWalker walker)) result }

@@ -17,6 +17,11 @@ pub either-way : {T E P Q A : Type 0} (r : Result T E) → OnOk r P → OnErr r 
 either-way (Ok x) p q f g = f p
 either-way (Err e) p q f g = g q
 
+-- what holds anyway holds after a failure
+pub after_error : {T E Q : Type 0} (r : Result T E) → Q → OnErr r Q
+after_error (Ok x) q = tt
+after_error (Err e) q = q
+
 pub left-same : (v : World) → LeavesAll v v
 left-same v = record {
   trees = empty;

@@ -21,9 +21,9 @@ use dom_kinds::{DomError, Kind};
 use dom_tree::{NodeId, Tree};
 use std::alloc::{AllocError, Global};
 
-/// Copies a node, with its descendants where the copy is deep (clone).
+/// Copies a node, with its descendants if the copy is deep (clone).
 ///
-/// The copies are a root of their own. Their node document is that of the node; a Document's copy is the node document of its copies.
+/// The copy is a root. Its node document is that of the node; a copied Document is the node document of its copies.
 pub fn clone_node(
     world: &mut World,
     alloc: Global,
@@ -43,9 +43,9 @@ pub fn clone_node(
     copy_tree(world, alloc, node, deep, document)
 }
 
-/// Copies a node, with its descendants where the copy is deep, into a document (import).
+/// Copies a node into a document, with its descendants if the copy is deep (import).
 ///
-/// A Document is refused with `NotSupportedError`.
+/// Refuses a Document with `NotSupportedError`.
 pub fn import(
     world: &mut World,
     alloc: Global,
@@ -73,7 +73,7 @@ pub fn import(
     Ok(copy)
 }
 
-// The node document of a node's copies; none where the first of them is a Document, whose own it is.
+// Returns the node document of a node's copies; none if the first copy is a Document, which is its own.
 fn document_of_copies(tree: &Tree<Content>, node: NodeId) -> Option<NodeId>
     requires { HasNode tree.now.forest node }
     ensures { IfSome (entry_in tree.now.forest node) (λ e. result
@@ -86,7 +86,7 @@ fn document_of_copies(tree: &Tree<Content>, node: NodeId) -> Option<NodeId>
     }
 }
 
-// Copies a node, with its descendants where the copy is deep, into a document or, where there is none, into the first copy.
+// Copies a node, with its descendants if the copy is deep, into a document or, without one, into the first copy.
 fn copy_tree(
     world: &mut World,
     alloc: Global,
@@ -122,7 +122,7 @@ fn copy_tree(
     Ok(top)
 }
 
-// Copies one node into a document or, where there is none, into itself.
+// Copies one node into a document or, without one, into itself.
 fn copy_node(
     world: &mut World,
     alloc: Global,
@@ -148,8 +148,40 @@ fn copy_node(
     world.make(label, content, document)
 }
 
-// Copies one node, to be the last child of a parent, into that one's node document.
+// Copies one node as a parent's last child, into that parent's node document. Reserves room for blocks of a long list.
 fn copy_under(
+    world: &mut World,
+    alloc: Global,
+    node: NodeId,
+    parent: NodeId,
+) -> Result<NodeId, AllocError>
+    requires whole { IsWhole world.old }
+    requires held { HasNode world.old.tree.forest node }
+    requires parent_held { HasNode world.old.tree.forest parent }
+    requires room { world.old.tree.made < 4294967295 }
+    requires kinds { MayStand world.old.tree.forest parent node }
+    ensures number { IfOk result (λ id. id ≡ world.old.tree.made) }
+    ensures copied { IfSome (entry_in world.old.tree.forest parent)
+        (λ p. IfSome (entry_in world.old.tree.forest node) (λ e.
+        OnOk result (Follows world.old world.new (made_under parent p.value.document e.value)))) }
+    ensures failed { OnErr result (LeavesAll world.old world.new) }
+    ensures observers { world.new.observers ≡ world.old.observers }
+    ensures whole { IsWhole world.new }
+{
+    make_room(world, parent)?;
+    copy_last(world, alloc, node, parent)
+}
+
+// Room for blocks of a parent's children, if these are many. The world stays as it is.
+fn make_room(world: &mut World, parent: NodeId) -> Result<(), AllocError>
+    requires { HasNode world.old.tree.forest parent }
+    ensures { world.new ≡ world.old }
+{
+    world.tree.make_room(parent)
+}
+
+// The same, with no room for blocks.
+fn copy_last(
     world: &mut World,
     alloc: Global,
     node: NodeId,

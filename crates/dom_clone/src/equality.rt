@@ -11,7 +11,7 @@ use dom_edit::Content;
 use dom_kinds::Kind;
 use dom_tree::{NodeId, Tree};
 
-/// Whether two nodes are of one kind, agree in what their kind has, and have children that are equal in pairs (equals).
+/// Returns whether two nodes have equal kinds, names and contents, and children that are equal in pairs (equals).
 pub fn is_equal(tree: &Tree<Content>, node: NodeId, other: NodeId) -> bool
     requires node_held { HasNode tree.now.forest node }
     requires other_held { HasNode tree.now.forest other }
@@ -34,7 +34,7 @@ pub fn is_equal(tree: &Tree<Content>, node: NodeId, other: NodeId) -> bool
     false
 }
 
-// Whether two walks meet like nodes in like places.
+// Returns whether two walks meet equal nodes at equal places.
 fn are_alike(tree: &Tree<Content>, node: NodeId, left: NodeId, other: NodeId, right: NodeId) -> bool
     requires left_held { HasNode tree.now.forest left }
     requires right_held { HasNode tree.now.forest right }
@@ -47,7 +47,7 @@ fn are_alike(tree: &Tree<Content>, node: NodeId, left: NodeId, other: NodeId, ri
     agree(tree, left, right) && has_children == others_children && is_followed == other_followed
 }
 
-// Whether siblings follow a node inside a tree.
+// Returns whether siblings follow a node inside a subtree.
 fn is_followed_inside(tree: &Tree<Content>, top: NodeId, id: NodeId) -> bool
     requires { HasNode tree.now.forest id }
     ensures { result ≡ follows_inside tree.now.forest top id }
@@ -55,7 +55,7 @@ fn is_followed_inside(tree: &Tree<Content>, top: NodeId, id: NodeId) -> bool
     id != top && tree.next(id).is_some()
 }
 
-// Whether two nodes are of one kind, and agree in what their kind has.
+// Returns whether two nodes have equal kinds, names and contents.
 fn agree(tree: &Tree<Content>, left: NodeId, right: NodeId) -> bool
     requires left_held { HasNode tree.now.forest left }
     requires right_held { HasNode tree.now.forest right }
@@ -80,7 +80,7 @@ fn agree(tree: &Tree<Content>, left: NodeId, right: NodeId) -> bool
     }
 }
 
-// Whether two nodes have the same attributes.
+// Returns whether two nodes have the same attributes.
 fn same_attributes(tree: &Tree<Content>, left: NodeId, right: NodeId) -> bool
     requires left_held { HasNode tree.now.forest left }
     requires right_held { HasNode tree.now.forest right }
@@ -93,7 +93,7 @@ fn same_attributes(tree: &Tree<Content>, left: NodeId, right: NodeId) -> bool
     body.same_attributes(other)
 }
 
-// Whether two nodes have the same data.
+// Returns whether two nodes have the same data.
 fn same_text(tree: &Tree<Content>, left: NodeId, right: NodeId) -> bool
     requires left_held { HasNode tree.now.forest left }
     requires right_held { HasNode tree.now.forest right }

@@ -1,4 +1,4 @@
-//! How two nodes stand to each other.
+//! Relative positions of two nodes.
 
 ghost use Rattle.std.specs.Prelude.{◌≡◌, nat_lt, if◌then◌else◌};
 ghost use Rattle.dom_model.specs.Forests.Forest.{HasNode};
@@ -7,14 +7,14 @@ ghost use Rattle.dom_model.specs.DataAndCopies.Clones.{contains, position};
 use dom_edit::Content;
 use dom_tree::{NodeId, Tree};
 
-/// Whether the other is an inclusive descendant of the node (contains).
+/// Returns whether the other is an inclusive descendant of the node (contains).
 pub fn contains(tree: &Tree<Content>, node: NodeId, other: NodeId) -> bool
     ensures { result ≡ contains tree.now.forest node other }
 {
     tree.holds(other) && tree.is_ancestor(node, other)
 }
 
-// The bits of a position.
+// Returns the bits of a position.
 const DISCONNECTED: u16 = 1;
 
 const PRECEDING: u16 = 2;
@@ -27,9 +27,9 @@ const CONTAINED_BY: u16 = 16;
 
 const IMPLEMENTATION_SPECIFIC: u16 = 32;
 
-/// Where the other stands, seen from the node: the bits of compareDocumentPosition, 0 for the node itself.
+/// Returns the position of the other relative to the node: the bits of compareDocumentPosition, 0 for the node itself.
 ///
-/// Of two trees, that whose root has the smaller number comes first.
+/// Of two trees, the one whose root has the smaller number comes first.
 #[tactic(auto, using(crate::proofs::Positions::ahead_place))]
 pub fn position(tree: &Tree<Content>, node: NodeId, other: NodeId) -> u16
     requires node_held { HasNode tree.now.forest node }
@@ -57,7 +57,7 @@ pub fn position(tree: &Tree<Content>, node: NodeId, other: NodeId) -> u16
     }
 }
 
-// The position of a node of another tree, by the roots.
+// Returns the position of a node in another tree, by the roots.
 fn position_apart(root: NodeId, other_root: NodeId) -> u16
     ensures { result ≡ (if nat_lt other_root root then 35 else 37) }
 {

@@ -1,4 +1,4 @@
-//! What waits while a tree is gone through in its order.
+//! The stack of a walk in tree order.
 
 ghost use Rattle.std.specs.Prelude.{◌≡◌, ◌++◌, OnOk};
 ghost use Rattle.dom_clone.specs.Waits.{waiting_for};
@@ -6,18 +6,18 @@ ghost use Rattle.dom_clone.specs.Waits.{waiting_for};
 use dom_tree::NodeId;
 use std::alloc::AllocError;
 
-/// A node that waits with its following siblings and all that stands below them, and where what is made of them has its place.
+/// A stack entry: a node to be visited with its following siblings and their descendants, and the place of their results.
 ///
-/// What was put in last is taken first: a node's following siblings wait beneath its children, so that the nodes come in tree order.
+/// A node's following siblings lie below its children, so nodes are visited in tree order.
 #[derive(Drop)]
 pub struct Waiting<Place> {
-    /// The node that comes next.
+    /// The node to visit.
     pub first: NodeId,
-    /// A parent or a depth, say.
+    /// The place of its result: a parent or a depth.
     pub place: Place,
 }
 
-/// Lets a node wait, where there is one.
+/// Pushes a node, if there is one.
 pub fn wait_for<Place: Copy>(
     waiting: &mut Vec<Waiting<Place>>,
     first: Option<NodeId>,

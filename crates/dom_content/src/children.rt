@@ -1,4 +1,4 @@
-//! Children of a node: from one of them or an offset on, and up to one (DOM Standard, "Trees").
+//! Slices of a node's children (DOM Standard, "Trees").
 
 ghost use Rattle.std.specs.Prelude.{◌≡◌, take, drop, IfOk};
 ghost use Rattle.dom_model.specs.Forests.Forest.{HasNode, children_of};
@@ -9,7 +9,7 @@ use dom_edit::Content;
 use dom_tree::{NodeId, Tree};
 use std::alloc::{AllocError, Global};
 
-// The children of a node from one of them on, and ahead of another.
+// Returns the children of a node from one of them on, up to another.
 pub(crate) fn children_between(
     tree: &Tree<Content>,
     alloc: Global,
@@ -33,7 +33,7 @@ pub(crate) fn children_between(
     Ok(list)
 }
 
-// The children of a node from an offset on.
+// Returns the children of a node from an offset on.
 pub(crate) fn children_from(
     tree: &Tree<Content>,
     alloc: Global,
@@ -48,7 +48,7 @@ pub(crate) fn children_from(
     children_between(tree, alloc, parent, from, None)
 }
 
-// The children of a node that come after one of them; none where it is not there.
+// Returns the children of a node after one of them; none if it is no child.
 pub(crate) fn children_past(
     tree: &Tree<Content>,
     alloc: Global,
@@ -67,7 +67,7 @@ pub(crate) fn children_past(
     Ok(Vec::new(alloc))
 }
 
-// The children of a node that come before one of them; all where it is not there.
+// Returns the children of a node before one of them; all if it is no child.
 pub(crate) fn children_ahead(
     tree: &Tree<Content>,
     alloc: Global,
@@ -82,7 +82,7 @@ pub(crate) fn children_ahead(
     children_between(tree, alloc, parent, from, Some(child))
 }
 
-// The children of a node up to an offset.
+// Returns the children of a node up to an offset.
 pub(crate) fn children_until(
     tree: &Tree<Content>,
     alloc: Global,

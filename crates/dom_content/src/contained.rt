@@ -19,7 +19,7 @@ use dom_point::Point;
 use dom_tree::{NodeId, Tree};
 use std::alloc::{AllocError, Global};
 
-// The children of a node from an offset on; none of a node with data.
+// Returns the children of a node from an offset on; none for a node with data.
 fn tail_of(
     world: &World,
     alloc: Global,
@@ -36,7 +36,7 @@ fn tail_of(
     children_from(&world.tree, alloc, node, offset)
 }
 
-// The children of a node up to an offset; none of a node with data.
+// Returns the children of a node up to an offset; none for a node with data.
 fn head_of(
     world: &World,
     alloc: Global,
@@ -53,7 +53,7 @@ fn head_of(
     children_until(&world.tree, alloc, node, offset)
 }
 
-// The nodes that stand behind a path, from an offset of its last node on: the deepest first, as in tree order.
+// Returns the nodes after a path, from an offset of its last node on: the deepest first, as in tree order.
 fn tail_nodes(
     world: &World,
     alloc: Global,
@@ -76,7 +76,7 @@ fn tail_nodes(
     Ok(list)
 }
 
-// The nodes that stand ahead of a path, up to an offset of its last node: the deepest last.
+// Returns the nodes before a path, up to an offset of its last node: the deepest last.
 fn head_nodes(
     world: &World,
     alloc: Global,
@@ -100,8 +100,8 @@ fn head_nodes(
     Ok(list)
 }
 
-// The nodes that a range contains without containing their parents, in tree order: those beside the paths down to its two nodes, and between them
-// the children of the common ancestor.
+// Returns the contained nodes whose parents are not contained, in tree order: those beside the paths to both ends, and the children of the common
+// ancestor between them.
 pub(crate) fn contained_tops(
     world: &World,
     alloc: Global,
@@ -122,8 +122,7 @@ pub(crate) fn contained_tops(
     Ok(tops)
 }
 
-// The last node in tree order whose front does not come after a point: the point's node, or the last node inside the child ahead of the point. The
-// next one comes behind the point.
+// Returns the last node in tree order that does not begin after a point: the point's node, or the last descendant of the child before it.
 pub(crate) fn last_ahead(tree: &Tree<Content>, point: Point) -> NodeId
     requires held { HasNode tree.now.forest point.node }
     ensures held { HasNode tree.now.forest result }

@@ -9,7 +9,7 @@ use dom_edit::Content;
 use dom_point::Point;
 use dom_tree::Tree;
 
-// Whether both points stand in one node that has data.
+// Returns whether both points are in one node that has data.
 pub(crate) fn is_in_one_data(tree: &Tree<Content>, start: Point, end: Point) -> bool
     requires held { HasNode tree.now.forest start.node }
     ensures { result ≡ ((start.node == end.node) && kind_passes is_character_data tree.now.forest

@@ -1,4 +1,4 @@
-//! Contents that are deleted (DOM Standard, "Interface Range", deleteContents).
+//! Deleting contents (DOM Standard, "Interface Range", deleteContents).
 
 ghost use Rattle.std.specs.Prelude.{◌≡◌, ℕ, ◌<◌, ◌≤◌, [], length, true, false, Some, OnOk, IsSome};
 ghost use Rattle.dom_model.specs.PlainLists.Lists.{hits};
@@ -28,7 +28,7 @@ use dom_ranges::RangeId;
 use dom_tree::{NodeId, Tree};
 use std::alloc::{AllocError, Global};
 
-// Takes units of a node's data out, from an offset on that is within the data.
+// Removes units of a node's data, from an offset within the data on.
 fn cut_units(
     world: &mut World,
     alloc: Global,
@@ -46,8 +46,8 @@ fn cut_units(
     replace_data_checked(world, alloc, node, offset, count, &[])
 }
 
-// Where both ends of a range stand once its contents are gone: behind the child of the common ancestor that the path to the start begins with, or at
-// the start, where that stands in the ancestor itself.
+// Returns the point of a range whose contents were removed: after the common ancestor's child on the path to the start, or the start itself if that
+// is in the ancestor.
 pub(crate) fn new_place(tree: &Tree<Content>, start: Point, path: &[NodeId]) -> Point
     requires way { (ancestor : ℕ) × IsWay tree.now.forest ancestor path.now start.node }
     ensures { (ancestor : ℕ) → IsWay tree.now.forest ancestor path.now start.node →
@@ -71,7 +71,7 @@ pub(crate) fn stand_at(world: &mut World, range: RangeId, place: Point)
     world.ranges.collapse_at(range, place);
 }
 
-// Takes the units of a node's data from a point on out, where the node has data.
+// Removes the units of a node's data from a point on, if the node has data.
 fn cut_from(world: &mut World, alloc: Global, start: Point) -> Result<(), AllocError>
     requires whole { IsWhole world.old }
     requires held { HasNode world.old.tree.forest start.node }
@@ -89,7 +89,7 @@ fn cut_from(world: &mut World, alloc: Global, start: Point) -> Result<(), AllocE
     cut_units(world, alloc, node, offset, length - offset)
 }
 
-// Takes the units of a node's data up to a point out, where the node has data.
+// Removes the units of a node's data up to a point, if the node has data.
 fn cut_up_to(world: &mut World, alloc: Global, end: Point) -> Result<(), AllocError>
     requires whole { IsWhole world.old }
     requires held { HasNode world.old.tree.forest end.node }
@@ -104,7 +104,7 @@ fn cut_up_to(world: &mut World, alloc: Global, end: Point) -> Result<(), AllocEr
     cut_units(world, alloc, node, 0, offset)
 }
 
-// Takes each of these nodes out of its parent in turn.
+// Removes each of these nodes from its parent in turn.
 fn remove_each(world: &mut World, nodes: &[NodeId]) -> Result<(), AllocError>
     requires whole { IsWhole world.old }
     requires held { (n : ℕ) → 0 < hits n nodes.now → HasNode world.old.tree.forest n }
@@ -118,7 +118,7 @@ fn remove_each(world: &mut World, nodes: &[NodeId]) -> Result<(), AllocError>
     Ok(())
 }
 
-// Deletes what lies in a range that is not within the data of one node.
+// Deletes the contents of a range that is not within the data of one node.
 fn delete_between(
     world: &mut World,
     alloc: Global,
@@ -145,7 +145,7 @@ fn delete_between(
     Ok(())
 }
 
-// Deletes what lies in a live range.
+// Deletes the contents of a live range.
 fn delete_range(world: &mut World, alloc: Global, range: RangeId) -> Result<(), AllocError>
     requires whole { IsWhole world.old }
     requires held { IsSome (range_in world.old.ranges range) }
@@ -164,7 +164,7 @@ fn delete_range(world: &mut World, alloc: Global, range: RangeId) -> Result<(), 
     delete_between(world, alloc, range, start, end)
 }
 
-/// Deletes what lies in a live range; both its ends then stand where that was.
+/// Deletes the contents of a live range, and collapses it.
 pub fn delete_contents(world: &mut World, alloc: Global, range: RangeId) -> Result<(), AllocError>
     requires whole { IsWhole world.old }
     requires held { IsSome (range_in world.old.ranges range) }

@@ -1,4 +1,4 @@
-//! Contents that go into a fragment, moved or copied (DOM Standard, "Interface Range", extractContents, cloneContents).
+//! Moving or copying contents into a fragment (DOM Standard, "Interface Range", extractContents, cloneContents).
 
 ghost use Rattle.std.specs.Prelude.{◌≡◌, ◌-◌, ◌==◌, ◌≤◌, ◌||◌, ◌++◌, [], ◌∷◌, length, true, false, None, IfOk, OnOk, IsSome};
 ghost use Rattle.std.specs.Result.{IfErr};
@@ -36,7 +36,7 @@ use dom_ranges::RangeId;
 use dom_tree::{NodeId, Tree};
 use std::alloc::{AllocError, Global};
 
-// What is drawn of a range: whether it moves or is copied, the range's ends, and its parts.
+// The contents of a range: whether they are moved or copied, the range's ends, and its parts.
 #[derive(Clone, Copy)]
 struct Drawn<'a> {
     moves: bool,
@@ -45,7 +45,7 @@ struct Drawn<'a> {
     parts: &'a Parts,
 }
 
-// Whether one of these nodes is a doctype.
+// Returns whether one of these nodes is a doctype.
 fn has_doctype(tree: &Tree<Content>, nodes: &[NodeId]) -> bool
     requires held { AreThere tree.now.forest nodes.now }
     ensures { result ≡ has_kind DocumentType tree.now.forest nodes.now }
@@ -58,7 +58,7 @@ fn has_doctype(tree: &Tree<Content>, nodes: &[NodeId]) -> bool
     false
 }
 
-// The parts of a range whose contents may go into a fragment: no doctype is contained in it.
+// Returns the parts of a range, unless it contains a doctype.
 fn drawable_parts(world: &World, alloc: Global, start: Point, end: Point) -> Result<Parts, Refusal>
     requires whole { IsWhole world.now }
     requires range { IsRange world.now.tree.forest (record { start = start; end = end }) }
@@ -76,7 +76,7 @@ fn drawable_parts(world: &World, alloc: Global, start: Point, end: Point) -> Res
     Ok(parts)
 }
 
-// Whether the ends of a range follow the cut, once its contents are gone.
+// Returns whether the ends of a range follow the cut, once its contents are removed.
 fn follows_cut(tree: &Tree<Content>, start: Point, end: Point) -> bool
     requires held { HasNode tree.now.forest start.node }
     ensures { result ≡ (is_collapsed (record { start = start; end = end })
@@ -85,7 +85,7 @@ fn follows_cut(tree: &Tree<Content>, start: Point, end: Point) -> bool
     start == end || is_in_one_data(tree, start, end)
 }
 
-// The units between two points of one node go into a fragment.
+// Puts the units between two points of one node into a fragment.
 fn draw_units(
     world: &mut World,
     alloc: Global,
@@ -119,7 +119,7 @@ fn draw_units(
     units_into(world, alloc, moves, into, start.node, start.offset, count)
 }
 
-// The parts of a range go into a fragment, in their order.
+// Puts the parts of a range into a fragment, in order.
 fn draw_parts(
     world: &mut World,
     alloc: Global,
@@ -152,7 +152,7 @@ fn draw_parts(
     head_into(world, alloc, moves, into, end.offset, &parts.last)
 }
 
-// The contents of a range go into a fragment: nothing, units of one node, or the parts.
+// Puts the contents of a range into a fragment: nothing, units of one node, or parts.
 fn fill(world: &mut World, alloc: Global, into: NodeId, drawn: &Drawn<'_>) -> Result<(), AllocError>
     requires whole { IsWhole world.old }
     requires start_held { HasNode world.old.tree.forest drawn.now.start.node }
@@ -214,7 +214,7 @@ fn draw(world: &mut World, alloc: Global, drawn: &Drawn<'_>) -> Result<NodeId, A
     Ok(fragment)
 }
 
-// Takes the contents of a live range into a new fragment, by its ends and parts; both ends then stand where they were.
+// Moves the contents of a live range into a new fragment, by its ends and parts, and collapses it.
 fn extract_parts(
     world: &mut World,
     alloc: Global,
@@ -252,9 +252,9 @@ fn extract_parts(
     Ok(fragment)
 }
 
-/// Takes what lies in a live range into a new fragment, which it answers; both ends then stand where that was.
+/// Moves the contents of a live range into a new fragment, returns that, and collapses the range.
 ///
-/// Nodes that lie in it only in part are copied. A doctype that lies in it is refused with `HierarchyRequestError`, before a node is made.
+/// Partially contained nodes are copied. Refuses a contained doctype with `HierarchyRequestError`, before a node is made.
 pub fn extract(world: &mut World, alloc: Global, range: RangeId) -> Result<NodeId, Refusal>
     requires whole { IsWhole world.old }
     requires held { IsSome (range_in world.old.ranges range) }
@@ -273,7 +273,7 @@ pub fn extract(world: &mut World, alloc: Global, range: RangeId) -> Result<NodeI
     Ok(fragment)
 }
 
-/// Takes what lies in a live range into a new fragment as [`extract`] does, where no doctype lies in it.
+/// Moves the contents of a live range into a new fragment as [`extract`] does, if no doctype is contained.
 pub fn extract_checked(
     world: &mut World,
     alloc: Global,
@@ -292,10 +292,10 @@ pub fn extract_checked(
     extract_parts(world, alloc, range, (start, end), &parts)
 }
 
-/// Copies what lies in a live range into a new fragment, which it answers.
+/// Copies the contents of a live range into a new fragment, and returns that.
 ///
-/// A doctype that lies in it is refused with `HierarchyRequestError`, before a node is made. Whatever comes of it, also where memory was wanting
-/// half-way, all nodes, ranges, iterators, walkers, registrations and records that were there are as they were.
+/// Refuses a contained doctype with `HierarchyRequestError`, before a node is made. Whatever the result, even out of memory half-way, every earlier
+/// node, range, iterator, walker, registration and record stays as it was.
 pub fn clone_contents(world: &mut World, alloc: Global, range: RangeId) -> Result<NodeId, Refusal>
     requires whole { IsWhole world.old }
     requires held { IsSome (range_in world.old.ranges range) }

@@ -1,4 +1,4 @@
-//! Nodes that lie in a range in part: each is copied, and the copy is filled and finished (DOM Standard, "Interface Range", extract, clone the contents).
+//! Partially contained nodes: each is copied, and the copy is filled and finished (DOM Standard, "Interface Range", extract, clone the contents).
 
 ghost use Rattle.std.specs.Prelude.{◌≡◌, ◌∷◌, [], false, IfOk, OnOk};
 ghost use Rattle.dom_model.specs.Worlds.World as model;
@@ -19,7 +19,7 @@ use smallvec::SmallVec;
 use std::alloc::{AllocError, Global};
 use std::default::MadeWith;
 
-// A node that lies in a range in part: its copy, a fragment that is to fill the copy, and the children that go into the fragment last.
+// A partially contained node: its copy, the fragment that fills the copy, and the children that are put into the fragment last.
 #[derive(Drop)]
 pub(crate) struct Partial {
     copy: NodeId,
@@ -27,11 +27,11 @@ pub(crate) struct Partial {
     children: Vec<NodeId>,
 }
 
-/// The nodes on a path that lie in a range in part. Those of a short path take no memory.
+/// The partially contained nodes on a path. A short path takes no memory.
 pub(crate) type Partials = SmallVec<Partial, 8>;
 
 impl MadeWith<Global> for Partial {
-    // An empty one, which stands in a place that is not taken.
+    // Returns an empty entry, for a place that is not used.
     fn made_with(alloc: Global) -> Self {
         Partial {
             copy: NodeId::new(0),
@@ -41,7 +41,7 @@ impl MadeWith<Global> for Partial {
     }
 }
 
-// Puts a copy of a node last into a fragment, and makes a further fragment.
+// Appends a copy of a node to a fragment, and makes a further fragment.
 pub(crate) fn open_partial(
     world: &mut World,
     alloc: Global,
@@ -77,7 +77,7 @@ pub(crate) fn open_partial(
     })
 }
 
-// Puts the children that are left into the further fragment, and that into the copy.
+// Puts the remaining children into the further fragment, and that into the copy.
 fn close_partial(
     world: &mut World,
     alloc: Global,
@@ -98,7 +98,7 @@ fn close_partial(
     put_last(world, alloc, partial.copy, partial.inner)
 }
 
-// The same of several, the last one first.
+// Does so for several, the last one first.
 pub(crate) fn close_all(
     world: &mut World,
     alloc: Global,

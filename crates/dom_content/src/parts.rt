@@ -1,4 +1,4 @@
-//! The parts of a range: the ways down to its two nodes, and what lies between them (DOM Standard, "Interface Range", "partially contained").
+//! The parts of a range: the paths down to its ends, and the children between them (DOM Standard, "Interface Range", "partially contained").
 
 ghost use Rattle.std.specs.Prelude.{◌≡◌, IfOk, slice_get};
 ghost use Rattle.dom_model.specs.Forests.Forest.{HasNode, children_of, ancestors};
@@ -15,8 +15,7 @@ use dom_point::{Point, common};
 use dom_tree::{NodeId, Tree};
 use std::alloc::{AllocError, Global};
 
-/// What lies in a range in part and what whole: the paths from the common ancestor of its two nodes down to them, and the children of that ancestor that
-/// are contained.
+/// The partial and whole parts of a range: the paths from the common ancestor down to its ends, and the contained children of that ancestor.
 #[derive(Drop)]
 pub(crate) struct Parts {
     pub first: Vec<NodeId>,
@@ -24,7 +23,7 @@ pub(crate) struct Parts {
     pub last: Vec<NodeId>,
 }
 
-// The inclusive ancestors of a node below another one, from the node on.
+// Returns the inclusive ancestors of a node below another one, from the node on.
 fn path_up(
     tree: &Tree<Content>,
     alloc: Global,
@@ -47,7 +46,7 @@ fn path_up(
     Ok(path)
 }
 
-// The path from a child of an ancestor down to a node; empty where the node is the ancestor.
+// Returns the path from a child of an ancestor down to a node; empty if the node is the ancestor.
 fn path_below(
     tree: &Tree<Content>,
     alloc: Global,
@@ -62,14 +61,14 @@ fn path_below(
     Ok(path)
 }
 
-// The first node on a path.
+// Returns the first node on a path.
 pub(crate) fn head(path: &[NodeId]) -> Option<NodeId>
     ensures { result ≡ slice_get path.now 0 }
 {
     path.first().copied()
 }
 
-// The first child of a node that lies behind a point. The path leads from the node down to that of the point.
+// Returns the first child of a node after a point, given the path from the node down to that of the point.
 fn child_behind(
     tree: &Tree<Content>,
     parent: NodeId,
@@ -88,7 +87,7 @@ fn child_behind(
     }
 }
 
-// The child of a node in which a point lies, or else the one behind the point.
+// Returns the child of a node in which a point is, or else the one after the point.
 fn child_at(tree: &Tree<Content>, parent: NodeId, point: Point, path: &[NodeId]) -> Option<NodeId>
     requires held { HasNode tree.now.forest point.node }
     requires way { IsWay tree.now.forest parent path.now point.node }
@@ -102,8 +101,7 @@ fn child_at(tree: &Tree<Content>, parent: NodeId, point: Point, path: &[NodeId])
     }
 }
 
-// The children of the common ancestor of a range's two nodes that are contained in the range, by the paths from there down to the two. It goes from
-// the one path to the other.
+// Returns the contained children of the common ancestor of a range's ends, given the paths from there down to both. Goes from one path to the other.
 fn contained_children(
     tree: &Tree<Content>,
     alloc: Global,
@@ -128,7 +126,7 @@ fn contained_children(
     children_between(tree, alloc, ancestor, from, until)
 }
 
-// The parts of a range that is not collapsed.
+// Returns the parts of a range that is not collapsed.
 fn gather_parts(
     tree: &Tree<Content>,
     alloc: Global,
@@ -149,7 +147,7 @@ fn gather_parts(
     })
 }
 
-// The parts of a range. Nothing is gathered where it is collapsed.
+// Returns the parts of a range, without collecting any if it is collapsed.
 pub(crate) fn parts_of(
     tree: &Tree<Content>,
     alloc: Global,

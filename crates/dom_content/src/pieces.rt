@@ -1,4 +1,4 @@
-//! The pieces of contents that go into a fragment: units of a node, and children, moved or copied (DOM Standard, "Interface Range").
+//! Pieces of contents: units of a node, and children, moved or copied (DOM Standard, "Interface Range").
 
 ghost use Rattle.std.specs.Prelude.{◌≡◌, ◌≤◌, ◌∷◌, [], length, true, false, None, IsSome, IfOk, OnOk};
 ghost use Rattle.dom_model.specs.declared.Kind.TheVariants.{Document};
@@ -26,7 +26,7 @@ use dom_tree::{NodeId, Tree};
 use dom_units::{Units, units_within};
 use std::alloc::{AllocError, Global};
 
-// Makes a fragment without children in a document. Its number is the next one.
+// Makes a fragment without children in a document. It gets the next number.
 pub(crate) fn new_fragment(world: &mut World, document: NodeId) -> Result<NodeId, AllocError>
     requires whole { IsWhole world.old }
     requires document_kind { is_of_kind Document world.old.tree.forest document ≡ true }
@@ -44,7 +44,7 @@ pub(crate) fn new_fragment(world: &mut World, document: NodeId) -> Result<NodeId
     world.make(label, Content::nothing(), Some(document))
 }
 
-// Puts a new node, or the children of a new fragment, last under a parent that may have it: no end of a live range stands inside it.
+// Appends a new node, or the children of a new fragment, to a parent that may have it. No live range end is inside it.
 pub(crate) fn put_last(
     world: &mut World,
     alloc: Global,
@@ -66,7 +66,7 @@ pub(crate) fn put_last(
     world.insert_unreferred(alloc, parent, node, None)
 }
 
-// Moves a node from its parent last under another that may have it.
+// Moves a node from its parent to the end of another that may have it.
 fn move_last(
     world: &mut World,
     alloc: Global,
@@ -84,7 +84,7 @@ fn move_last(
     world.insert(alloc, parent, node, None)
 }
 
-// Copies a node, with its descendants where the copy is deep. Its number is the next one.
+// Copies a node, with its descendants if the copy is deep. The copy gets the next number.
 pub(crate) fn copy_of(
     world: &mut World,
     alloc: Global,
@@ -108,7 +108,7 @@ pub(crate) fn copy_of(
     clone_node(world, alloc, node, deep)
 }
 
-// Units of a node's data from an offset on that is within the data: so many, or as many as there are.
+// Returns at most a number of units of a node's data, from an offset within it on.
 fn part_of(
     tree: &Tree<Content>,
     alloc: Global,
@@ -126,7 +126,7 @@ fn part_of(
     Units::from_units(alloc, units_within(data, offset, count))
 }
 
-// Copies a node's label and attributes, with other data. Its number is the next one.
+// Copies a node's label and attributes, with other data. The copy gets the next number.
 fn copy_with(
     world: &mut World,
     alloc: Global,
@@ -154,7 +154,7 @@ fn copy_with(
     world.make(label, content, Some(document))
 }
 
-// Takes units of a node's data out from an offset on that is within the data, where the contents move.
+// Removes units of a node's data, from an offset within it on, if the contents are moved.
 fn cut_if(
     world: &mut World,
     alloc: Global,
@@ -178,7 +178,7 @@ fn cut_if(
     replace_data_checked(world, alloc, node, offset, count, &[])
 }
 
-// Puts a copy of a node with data into a fragment, with `count` of its units from `offset` on; where the contents move, they are cut.
+// Puts a copy of a node with data into a fragment, with `count` of its units from `offset` on; cuts these if the contents are moved.
 pub(crate) fn units_into(
     world: &mut World,
     alloc: Global,
@@ -206,7 +206,7 @@ pub(crate) fn units_into(
     cut_if(world, alloc, moves, node, offset, count)
 }
 
-// Puts a node last into a fragment or, where the contents do not move, a copy of it with its descendants.
+// Appends a node to a fragment or, if the contents are copied, a copy of it with its descendants.
 pub(crate) fn child_into(
     world: &mut World,
     alloc: Global,
@@ -231,7 +231,7 @@ pub(crate) fn child_into(
     put_last(world, alloc, into, copy)
 }
 
-// The same of each of these nodes in turn.
+// Does so for each of these nodes in turn.
 pub(crate) fn children_into(
     world: &mut World,
     alloc: Global,

@@ -1,4 +1,4 @@
-//! The text in a live range (DOM Standard, "Interface Range", stringification).
+//! The text of a live range (DOM Standard, "Interface Range", stringification).
 
 ghost use Rattle.std.specs.Prelude.{◌≡◌, ◌-◌, ◌≤◌, ◌++◌, length, true, false, IfOk, OnOk, IfSome, IsSome};
 ghost use Rattle.dom_model.specs.declared.Kind.TheVariants.{Text};
@@ -24,7 +24,7 @@ use dom_tree::{NodeId, Tree};
 use dom_units::{Units, units_within};
 use std::alloc::{AllocError, Global};
 
-// Puts a part of the data of a node behind a text, where the node is a Text.
+// Appends a part of the data of a node to a text, if the node is a Text.
 fn append_part(
     tree: &Tree<Content>,
     node: NodeId,
@@ -45,7 +45,7 @@ fn append_part(
     text.splice(end, 0, units_within(data_in(tree, node), from, to - from))
 }
 
-// Puts the data of a node from a point on behind a text, where the node is a Text.
+// Appends the data of a node from a point on to a text, if the node is a Text.
 fn append_tail(tree: &Tree<Content>, from: Point, text: &mut Units) -> Result<(), AllocError>
     requires held { HasNode tree.now.forest from.node }
     requires within { is_of_kind Text tree.now.forest from.node ≡ true →
@@ -57,8 +57,8 @@ fn append_tail(tree: &Tree<Content>, from: Point, text: &mut Units) -> Result<()
     append_part(tree, node, offset, length, text)
 }
 
-// Puts the data of a node that comes between the ends of a range behind a text, where it is a Text that is contained. A Text has no children, so
-// that no other one than the end's node is above the end.
+// Appends the data of a node between the ends of a range to a text, if it is a contained Text. A Text has no children, so only the end's node can be
+// one with the end inside.
 fn append_contained(
     tree: &Tree<Content>,
     start: Point,
@@ -81,8 +81,7 @@ fn append_contained(
     append_tail(tree, Point { node, offset: 0 }, text)
 }
 
-// Puts the data of the Texts that are contained in a range behind a text. It walks from the last node ahead of the start to the last ahead of the
-// end.
+// Appends the data of the contained Texts to a text. Walks from the last node before the start to the last before the end.
 fn append_between(
     tree: &Tree<Content>,
     start: Point,
@@ -105,7 +104,7 @@ fn append_between(
     Ok(())
 }
 
-// Gathers the data of the Texts that lie in a live range, cut at its two ends.
+// Collects the data of the Texts in a live range, cut at its ends.
 fn gather_text(world: &World, alloc: Global, range: RangeId) -> Result<Units, AllocError>
     requires whole { IsWhole world.now }
     requires held { IsSome (range_in world.now.ranges range) }
@@ -125,9 +124,9 @@ fn gather_text(world: &World, alloc: Global, range: RangeId) -> Result<Units, Al
     Ok(text)
 }
 
-/// The data of the Texts that lie in a live range, cut at its two ends.
+/// Returns the data of the Texts in a live range, cut at its ends.
 ///
-/// In the token text of the root it is what lies between the markers of the two ends.
+/// In the token text of the root these are the units between the markers of its ends.
 pub fn range_text(world: &World, alloc: Global, range: RangeId) -> Result<Units, AllocError>
     requires whole { IsWhole world.now }
     requires held { IsSome (range_in world.now.ranges range) }

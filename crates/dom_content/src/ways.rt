@@ -1,4 +1,4 @@
-//! The two ways between the common ancestor and the ends of a range: what lies beside them goes into a fragment (DOM Standard, "Interface Range",
+//! The two paths from the common ancestor to the ends of a range: nodes beside them are put into a fragment (DOM Standard, "Interface Range",
 //! extract, clone the contents).
 
 ghost use Rattle.std.specs.Prelude.{◌≡◌, ◌-◌, ◌∷◌, [], length, false, IfOk, OnOk};
@@ -23,7 +23,7 @@ use dom_tree::{NodeId, Tree};
 use smallvec::SmallVec;
 use std::alloc::{AllocError, Global};
 
-// The number of units from an offset on.
+// Returns the number of units from an offset on.
 fn units_past(tree: &Tree<Content>, node: NodeId, offset: usize) -> usize
     requires held { HasNode tree.now.forest node }
     ensures { result ≡ length (content_in (entry_in tree.now.forest node)).text - offset }
@@ -31,7 +31,7 @@ fn units_past(tree: &Tree<Content>, node: NodeId, offset: usize) -> usize
     data_in(tree, node).len().saturating_sub(offset)
 }
 
-// Opens a node on the path; the children behind the next one are left for later.
+// Opens a node on the path; the children after the next one are left for later.
 fn open_tail(
     world: &mut World,
     alloc: Global,
@@ -62,7 +62,7 @@ fn open_tail(
     open_partial(world, alloc, into, node, behind)
 }
 
-// Puts what lies behind an offset of a node into a fragment.
+// Puts the contents after an offset of a node into a fragment.
 fn tail_of_last(
     world: &mut World,
     alloc: Global,
@@ -91,7 +91,7 @@ fn tail_of_last(
     copy_into(world, alloc, moves, into, node, behind)
 }
 
-// The same along a path that is not empty: its first node, and those below.
+// Does so along a path that is not empty: its first node, and those below.
 fn tail_along(
     world: &mut World,
     alloc: Global,
@@ -125,7 +125,7 @@ fn tail_along(
     close_all(world, alloc, moves, partials)
 }
 
-// Puts what lies from an offset of the path's last node to the end of its first into a fragment.
+// Puts everything from an offset of the path's last node to the end of its first into a fragment.
 pub(crate) fn tail_into(
     world: &mut World,
     alloc: Global,
@@ -151,7 +151,7 @@ pub(crate) fn tail_into(
     }
 }
 
-// Opens a node on the path; the children ahead of the next one go in at once.
+// Opens a node on the path; the children before the next one are put in at once.
 fn open_head(
     world: &mut World,
     alloc: Global,
@@ -182,7 +182,7 @@ fn open_head(
     Ok(partial)
 }
 
-// Puts what lies before an offset of a node into a fragment.
+// Puts the contents before an offset of a node into a fragment.
 fn head_of_last(
     world: &mut World,
     alloc: Global,
@@ -209,7 +209,7 @@ fn head_of_last(
     copy_into(world, alloc, moves, into, node, ahead)
 }
 
-// The same along a path that is not empty: its first node, and those below.
+// Does so along a path that is not empty: its first node, and those below.
 fn head_along(
     world: &mut World,
     alloc: Global,
@@ -243,7 +243,7 @@ fn head_along(
     close_all(world, alloc, moves, partials)
 }
 
-// Puts what lies from the start of the path's first node to an offset of its last into a fragment.
+// Puts everything from the start of the path's first node to an offset of its last into a fragment.
 pub(crate) fn head_into(
     world: &mut World,
     alloc: Global,

@@ -1,4 +1,4 @@
-//! Attributes set, removed and toggled (DOM Standard, "Interface Element").
+//! Setting, removing and toggling attributes (DOM Standard, "Interface Element").
 
 ghost use Rattle.std.specs.Prelude.{◌≡◌, true, string_bytes, IfOk, OnOk, OnErr};
 ghost use Rattle.dom_model.specs.declared.Kind.TheVariants.{Element};
@@ -14,9 +14,9 @@ use dom_tree::NodeId;
 use dom_units::Units;
 use std::alloc::{AllocError, Global};
 
-/// Sets an attribute, in place or as the last, with a record of the old value ("set an attribute value").
+/// Sets an attribute, in place or as the last, and queues a record of the old value ("set an attribute value").
 ///
-/// An equal value is set, and told, too.
+/// An equal value is set and recorded too.
 pub fn set_attribute(
     world: &mut World,
     alloc: Global,
@@ -36,7 +36,7 @@ pub fn set_attribute(
     set_in(&mut world.tree, alloc, node, name, value)
 }
 
-/// Removes an attribute, with a record of its value; nothing where it is not there ("remove an attribute by name").
+/// Removes an attribute and queues a record of its value; does nothing if it is absent ("remove an attribute by name").
 pub fn remove_attribute(world: &mut World, node: NodeId, name: &str) -> Result<(), AllocError>
     requires whole { IsWhole world.old }
     requires kind { is_of_kind Element world.old.tree.forest node ≡ true }
@@ -53,9 +53,9 @@ pub fn remove_attribute(world: &mut World, node: NodeId, name: &str) -> Result<(
     Ok(())
 }
 
-/// Adds an attribute with the empty value, or removes it: what is forced, or else the other way round than it is (toggleAttribute).
+/// Adds an attribute with the empty value, or removes it: as forced, or else the opposite of its present state (toggleAttribute).
 ///
-/// It answers whether the attribute is there afterwards.
+/// Returns whether the attribute is present afterwards.
 pub fn toggle_attribute(
     world: &mut World,
     alloc: Global,

@@ -1,4 +1,4 @@
-//! Data and attributes changed where a node keeps them.
+//! Changing data and attributes in their nodes.
 
 ghost use Rattle.std.specs.Prelude.{◌≡◌, ◌+◌, ◌^◌, ◌<◌, ◌≤◌, [], length, IfSome, is_some, option_copied, string_bytes, OnOk, OnErr};
 ghost use Rattle.dom_model.specs.Forests.Attributes.{attribute_value, with_attribute, without_attribute};
@@ -13,7 +13,7 @@ use dom_tree::{NodeId, Tree};
 use dom_units::Units;
 use std::alloc::{AllocError, Global};
 
-// The kind of a node.
+// Returns the kind of a node.
 pub(crate) fn kind_in(tree: &Tree<Content>, node: NodeId) -> Kind
     requires held { HasNode tree.now.forest node }
     ensures { IfSome (entry_in tree.now.forest node) (λ e. result ≡ e.value.label.kind) }
@@ -21,7 +21,7 @@ pub(crate) fn kind_in(tree: &Tree<Content>, node: NodeId) -> Kind
     tree.label(node).kind
 }
 
-// The value of an attribute of a node.
+// Returns the value of an attribute of a node.
 pub(crate) fn value_in<'a>(tree: &'a Tree<Content>, node: NodeId, name: &str) -> Option<&'a [u16]>
     requires held { HasNode tree.now.forest node }
     ensures { option_copied result ≡ attribute_value name.now
@@ -33,7 +33,7 @@ pub(crate) fn value_in<'a>(tree: &'a Tree<Content>, node: NodeId, name: &str) ->
     }
 }
 
-// Puts `added` in place of the `count` units of a node's data from `offset` on.
+// Replaces `count` units of a node's data from `offset` on by `added`.
 pub(crate) fn splice_data(
     tree: &mut Tree<Content>,
     alloc: Global,
@@ -61,7 +61,7 @@ pub(crate) fn splice_data(
     outcome
 }
 
-// Moves what is beyond an offset of a node's data into another node, which has no attributes.
+// Moves the units beyond an offset of a node's data into another node, which has no attributes.
 pub(crate) fn move_tail(
     tree: &mut Tree<Content>,
     alloc: Global,
@@ -85,7 +85,7 @@ pub(crate) fn move_tail(
     Ok(())
 }
 
-// Whether a node has an attribute of that name.
+// Returns whether a node has an attribute of a name.
 pub(crate) fn has_in(tree: &Tree<Content>, node: NodeId, name: &str) -> bool
     requires held { HasNode tree.now.forest node }
     ensures { result ≡ is_some (attribute_value name.now
@@ -116,7 +116,7 @@ pub(crate) fn set_in(
     Ok(())
 }
 
-// Takes an attribute of a node out.
+// Removes an attribute of a node.
 pub(crate) fn remove_in(tree: &mut Tree<Content>, node: NodeId, name: &str)
     requires held { HasNode tree.old.forest node }
     ensures { tree.new ≡ record tree.old {

@@ -1,4 +1,4 @@
-//! The text content of a node (DOM Standard, "Interface Node", textContent).
+//! Text content (DOM Standard, "Interface Node", textContent).
 
 ghost use Rattle.std.specs.Prelude.{◌≡◌, ◌≢◌, ◌<◌, true, false, [], ◌++◌, drop, IfOk, OnOk, OnErr};
 ghost use Rattle.dom_model.specs.declared.Kind.TheVariants.{Document};
@@ -22,7 +22,7 @@ use dom_tree::{NodeId, Tree};
 use dom_units::Units;
 use std::alloc::{AllocError, Global};
 
-// Puts the data of a node behind a text, where the node is a Text.
+// Appends the data of a node to a text, if the node is a Text.
 fn append_data(tree: &Tree<Content>, node: NodeId, text: &mut Units) -> Result<(), AllocError>
     requires held { HasNode tree.now.forest node }
     ensures { OnOk result (text.new ≡ text.old ++ text_at tree.now.forest node) }
@@ -34,7 +34,7 @@ fn append_data(tree: &Tree<Content>, node: NodeId, text: &mut Units) -> Result<(
     text.splice(end, 0, data_in(tree, node))
 }
 
-// The data of the Texts below a node, one after another ("descendant text content").
+// Returns the concatenated data of the Texts below a node ("descendant text content").
 fn descendant_text(tree: &Tree<Content>, alloc: Global, top: NodeId) -> Result<Units, AllocError>
     requires held { HasNode tree.now.forest top }
     ensures { IfOk result (λ text. text ≡ gathered tree.now.forest
@@ -50,7 +50,7 @@ fn descendant_text(tree: &Tree<Content>, alloc: Global, top: NodeId) -> Result<U
     Ok(text)
 }
 
-/// The data of a node, or of the Texts below it, one after another; none for a Document and a doctype ("get text content").
+/// Returns the data of a node, or the concatenated data of the Texts below it; none for a Document and a doctype ("get text content").
 pub fn text_content(world: &World, alloc: Global, node: NodeId) -> Result<Option<Units>, AllocError>
     requires whole { IsWhole world.now }
     requires held { HasNode world.now.tree.forest node }
@@ -69,7 +69,7 @@ pub fn text_content(world: &World, alloc: Global, node: NodeId) -> Result<Option
     }
 }
 
-// Puts a new Text, or nothing for the empty text, in place of all children of an element or a fragment ("string replace all").
+// Replaces all children of an element or a fragment by a new Text, or by nothing for the empty text ("string replace all").
 fn string_replace_all(
     world: &mut World,
     alloc: Global,
@@ -93,7 +93,7 @@ fn string_replace_all(
     world.replace_children_checked(alloc, parent, Some(child))
 }
 
-/// Makes a text the data of a node, or the one Text below it; nothing for a Document and a doctype ("set text content").
+/// Sets the data of a node, or replaces its children by one Text; does nothing for a Document and a doctype ("set text content").
 pub fn set_text_content(
     world: &mut World,
     alloc: Global,

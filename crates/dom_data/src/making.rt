@@ -13,7 +13,7 @@ use dom_tree::NodeId;
 use dom_units::Units;
 use std::alloc::{AllocError, Global};
 
-// Makes a Text with these units in a document, a root.
+// Makes a Text with these units in a document, as a root.
 pub(crate) fn make_text(
     world: &mut World,
     alloc: Global,

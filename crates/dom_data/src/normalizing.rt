@@ -1,4 +1,4 @@
-//! Texts joined to those before them (DOM Standard, "Interface Node", normalize).
+//! Merging adjacent Texts (DOM Standard, "Interface Node", normalize).
 
 ghost use Rattle.std.specs.Prelude.{◌≡◌, ◌≤◌, ℕ, ◌<◌, ◌+◌, ◌++◌, true, length, drop, if◌then◌else◌, Some, OnOk, IfOk};
 ghost use Rattle.dom_model.specs.declared.Kind.TheVariants.{Text};
@@ -23,7 +23,7 @@ use dom_tree::{NodeId, Tree};
 use dom_units::Units;
 use std::alloc::{AllocError, Global};
 
-// Puts a node last in a list, where it is a Text.
+// Appends a node to a list, if it is a Text.
 fn append_text(
     tree: &Tree<Content>,
     node: NodeId,
@@ -39,7 +39,7 @@ fn append_text(
     Ok(())
 }
 
-// The Texts below a node, in tree order.
+// Returns the Texts below a node, in tree order.
 fn texts_below(tree: &Tree<Content>, alloc: Global, top: NodeId) -> Result<Vec<NodeId>, AllocError>
     requires held { HasNode tree.now.forest top }
     ensures { IfOk result (λ texts. texts.items ≡ texts_among tree.now.forest
@@ -55,7 +55,7 @@ fn texts_below(tree: &Tree<Content>, alloc: Global, top: NodeId) -> Result<Vec<N
     Ok(texts)
 }
 
-// The next sibling, where it is a Text.
+// Returns the next sibling, if it is a Text.
 fn next_text(tree: &Tree<Content>, node: NodeId) -> Option<NodeId>
     requires held { HasNode tree.now.forest node }
     ensures { result ≡ next_text tree.now.forest node }
@@ -67,7 +67,7 @@ fn next_text(tree: &Tree<Content>, node: NodeId) -> Option<NodeId>
     }
 }
 
-// The Texts that follow a node among its siblings, one after another.
+// Returns the Texts that follow a node among its siblings without a gap.
 fn texts_behind(
     tree: &Tree<Content>,
     alloc: Global,
@@ -86,7 +86,7 @@ fn texts_behind(
     Ok(texts)
 }
 
-// The data of these nodes, one after another.
+// Returns the concatenated data of these nodes.
 fn data_among(tree: &Tree<Content>, alloc: Global, nodes: &[NodeId]) -> Result<Units, AllocError>
     requires held { (n : ℕ) → 0 < hits n nodes.now → HasNode tree.now.forest n }
     ensures { IfOk result (λ units. units ≡ data_among tree.now.forest nodes.now) }
@@ -99,7 +99,7 @@ fn data_among(tree: &Tree<Content>, alloc: Global, nodes: &[NodeId]) -> Result<U
     Ok(data)
 }
 
-/// The index of a child where an end stands in its parent; where none does, no end asks for it.
+/// Returns the index of a child if an end is in its parent; otherwise no end needs it.
 pub(crate) fn index_if_asked(world: &World, parent: NodeId, child: NodeId) -> usize
     requires held { HasNode world.now.tree.forest child }
     ensures asked { among parent (live_nodes world.now.ranges) ≡ true →
@@ -112,8 +112,7 @@ pub(crate) fn index_if_asked(world: &World, parent: NodeId, child: NodeId) -> us
     0
 }
 
-// Moves the ends in the Text that comes next, and those at it, into the one before it, and takes it out. It answers where the data of the
-// one after it begins.
+// Moves the ends in and at the next Text into the one before it, and removes it. Returns the offset at which the data of the Text after that begins.
 fn take_in(
     world: &mut World,
     node: NodeId,
@@ -138,7 +137,7 @@ fn take_in(
     Ok(base + length)
 }
 
-// The same of each Text that follows, where the node has their data already, from `base` on.
+// Does so for each following Text, whose data the node already has from `base` on.
 fn take_each_in(
     world: &mut World,
     node: NodeId,
@@ -159,7 +158,7 @@ fn take_each_in(
     Ok(())
 }
 
-// Puts units behind the data of a Text.
+// Appends units to the data of a Text.
 fn append_units(
     world: &mut World,
     alloc: Global,
@@ -177,7 +176,7 @@ fn append_units(
     replace_units(world, alloc, node, end, 0, added)
 }
 
-// Joins a child that is a Text with those that follow it.
+// Merges a child that is a Text with those that follow it.
 fn join_siblings(
     world: &mut World,
     alloc: Global,
@@ -199,7 +198,7 @@ fn join_siblings(
     take_each_in(world, node, parent, base, &texts)
 }
 
-// Joins a Text with those that follow it among its siblings. The record of its data comes where none follows it, too.
+// Merges a Text with those that follow it among its siblings. Queues the record of its data even if none follows.
 fn join_following(world: &mut World, alloc: Global, node: NodeId) -> Result<(), AllocError>
     requires whole { IsWhole world.old }
     requires kind { is_of_kind Text world.old.tree.forest node ≡ true }
@@ -214,7 +213,7 @@ fn join_following(world: &mut World, alloc: Global, node: NodeId) -> Result<(), 
     }
 }
 
-// Takes a Text without data out, and joins another with those that follow it.
+// Removes a Text without data, and merges any other with those that follow it.
 fn normalize_text(world: &mut World, alloc: Global, node: NodeId) -> Result<(), AllocError>
     requires whole { IsWhole world.old }
     requires kind { is_of_kind Text world.old.tree.forest node ≡ true }
@@ -229,7 +228,7 @@ fn normalize_text(world: &mut World, alloc: Global, node: NodeId) -> Result<(), 
     }
 }
 
-// The same of a Text that still is below a node: as long as it has a parent, which alone is looked at.
+// Does so for a Text that is still below a node, so has a parent.
 fn normalize_below(
     world: &mut World,
     alloc: Global,
@@ -251,7 +250,7 @@ fn normalize_below(
     }
 }
 
-// The same of each of these Texts in turn.
+// Does so for each of these Texts in turn.
 fn normalize_each(
     world: &mut World,
     alloc: Global,
@@ -272,7 +271,7 @@ fn normalize_each(
     Ok(())
 }
 
-/// Takes the empty Texts below a node out, and joins each other Text there with those that follow it ("normalize").
+/// Removes the empty Texts below a node, and merges each other Text there with those that follow it ("normalize").
 pub fn normalize(world: &mut World, alloc: Global, node: NodeId) -> Result<(), AllocError>
     requires whole { IsWhole world.old }
     requires held { HasNode world.old.tree.forest node }

@@ -16,7 +16,7 @@ use dom_observe::Mutation;
 use dom_tree::{NodeId, Tree};
 use std::alloc::AllocError;
 
-// Queues a record of a node's data, which is about to change, for each observer that it interests. Records are made in the observers' own memory.
+// Queues a record of a node's data, which is about to change, for each interested observer, in the observers' own memory.
 pub(crate) fn tell_data(world: &mut World, node: NodeId) -> Result<(), AllocError>
     requires whole { IsWhole world.old }
     requires held { HasNode world.old.tree.forest node }
@@ -38,7 +38,7 @@ pub(crate) fn tell_data(world: &mut World, node: NodeId) -> Result<(), AllocErro
     world.observers.queue(&world.tree, &mutation)
 }
 
-// The change of an attribute of a node, with the value that it has.
+// Returns the mutation of an attribute, with its present value.
 fn attribute_change<'a>(tree: &'a Tree<Content>, node: NodeId, name: &'a str) -> Mutation<'a>
     requires held { HasNode tree.now.forest node }
     ensures { result ≡ change_of Attributes node (Some name.now)
@@ -57,7 +57,7 @@ fn attribute_change<'a>(tree: &'a Tree<Content>, node: NodeId, name: &'a str) ->
     }
 }
 
-// Queues a record of an attribute, which is about to change, for each observer that it interests. Records are made in the observers' own memory.
+// Queues a record of an attribute, which is about to change, for each interested observer, in the observers' own memory.
 pub(crate) fn tell_attribute(world: &mut World, node: NodeId, name: &str) -> Result<(), AllocError>
     requires whole { IsWhole world.old }
     requires held { HasNode world.old.tree.forest node }

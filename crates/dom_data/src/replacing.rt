@@ -1,4 +1,4 @@
-//! The data of a node replaced, and read (DOM Standard, "Interface CharacterData").
+//! Replacing and reading a node's data (DOM Standard, "Interface CharacterData").
 
 ghost use Rattle.std.specs.Prelude.{◌≡◌, ◌+◌, ◌≤◌, length, true, None, IfOk, OnOk, OnErr};
 ghost use Rattle.std.specs.Result.{IfErr};
@@ -20,7 +20,7 @@ use dom_tree::NodeId;
 use dom_units::{Units, units_within};
 use std::alloc::{AllocError, Global};
 
-// Puts `added` in place of the `count` units from `offset` on, with a record of the old data.
+// Replaces `count` units from `offset` on by `added`, and queues a record of the old data.
 pub(crate) fn replace_units(
     world: &mut World,
     alloc: Global,
@@ -44,9 +44,9 @@ pub(crate) fn replace_units(
     Ok(())
 }
 
-/// Puts `added` in place of `count` units from `offset` on, with a record of the old data ("replace data").
+/// Replaces `count` units from `offset` on by `added`, and queues a record of the old data ("replace data").
 ///
-/// An offset past the end is refused with `IndexSizeError`; a count is cut at the end.
+/// Refuses an offset past the end with `IndexSizeError`. A count is cut at the end.
 pub fn replace_data(
     world: &mut World,
     alloc: Global,
@@ -75,7 +75,7 @@ pub fn replace_data(
     Ok(())
 }
 
-/// Puts `added` in place of `count` units from an offset on that is within the data, as [`replace_data`] does.
+/// Replaces `count` units from an offset within the data by `added`, as [`replace_data`] does.
 pub fn replace_data_checked(
     world: &mut World,
     alloc: Global,
@@ -100,7 +100,7 @@ pub fn replace_data_checked(
     replace_units(world, alloc, node, offset, count, added)
 }
 
-/// Puts a text in place of all data of a node, with a record of the old data.
+/// Replaces all data of a node, and queues a record of the old data.
 pub fn set_data(
     world: &mut World,
     alloc: Global,
@@ -120,9 +120,9 @@ pub fn set_data(
     replace_units(world, alloc, node, 0, length, text)
 }
 
-/// A copy of `count` units from `offset` on ("substring data").
+/// Returns a copy of `count` units from `offset` on ("substring data").
 ///
-/// An offset past the end is refused with `IndexSizeError`; a count is cut at the end.
+/// Refuses an offset past the end with `IndexSizeError`. A count is cut at the end.
 pub fn substring(
     world: &World,
     alloc: Global,

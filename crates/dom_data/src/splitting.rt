@@ -1,4 +1,4 @@
-//! A Text split in two (DOM Standard, "Interface Text").
+//! Splitting a Text (DOM Standard, "Interface Text").
 
 ghost use Rattle.std.specs.Prelude.{◌≡◌, ◌<◌, ◌≤◌, ◌^◌, true, Some, None, length, IfOk, OnOk};
 ghost use Rattle.std.specs.Result.{IfErr};
@@ -24,7 +24,7 @@ use dom_tree::{NodeId, Tree};
 use dom_units::Units;
 use std::alloc::{AllocError, Global};
 
-// A law: the count of the children fits a number of the machine.
+// States a law: the number of children fits a machine number.
 fn counted(tree: &Tree<Content>, parent: NodeId)
     requires { HasNode tree.now.forest parent }
     ensures { length (children_of tree.now.forest parent) < 2 ^ 64 }
@@ -33,7 +33,7 @@ fn counted(tree: &Tree<Content>, parent: NodeId)
     let _ = count;
 }
 
-// Puts the new Text behind the one that is split, where that has a parent.
+// Inserts the new Text after the split one, if that has a parent.
 fn put_behind(world: &mut World, alloc: Global, node: NodeId, new: NodeId) -> Result<(), AllocError>
     requires whole { IsWhole world.old }
     requires tail { IsTail world.old node new }
@@ -54,7 +54,7 @@ fn put_behind(world: &mut World, alloc: Global, node: NodeId, new: NodeId) -> Re
     }
 }
 
-// Moves the ends beyond the offset into the new Text, and one behind the old Text in the parent behind the new one.
+// Moves the ends beyond the offset into the new Text, and one after the old Text in the parent to after the new one.
 fn split_ends(world: &mut World, node: NodeId, offset: usize, new: NodeId)
     requires held { HasNode world.old.tree.forest node }
     requires new_held { HasNode world.old.tree.forest new }
@@ -78,9 +78,9 @@ fn split_ends(world: &mut World, node: NodeId, offset: usize, new: NodeId)
     }
 }
 
-/// Splits a Text at an offset: a new Text takes what is beyond it, behind the old one where that has a parent ("split").
+/// Splits a Text at an offset: a new Text gets the units beyond it, and is inserted after the old one if that has a parent ("split").
 ///
-/// It answers the new Text. An offset past the end is refused with `IndexSizeError`.
+/// Returns the new Text. Refuses an offset past the end with `IndexSizeError`.
 pub fn split(
     world: &mut World,
     alloc: Global,
@@ -107,7 +107,7 @@ pub fn split(
     Ok(new)
 }
 
-/// Splits a Text at an offset that is within its data, as [`split`] does.
+/// Splits a Text at an offset within its data, as [`split`] does.
 pub fn split_checked(
     world: &mut World,
     alloc: Global,

@@ -1,4 +1,4 @@
-//! The checks ahead of an insertion and of a replacement (DOM Standard, "Mutation algorithms": ensure pre-insertion validity; replace).
+//! Validity checks before an insertion and a replacement (DOM Standard, "Mutation algorithms": ensure pre-insertion validity; replace).
 
 ghost use Rattle.std.specs.Prelude.{◌≡◌, Bool, None, Some, MatchResult, not, ◌||◌, ◌&&◌};
 ghost use Rattle.std.specs.Option.{ForSome};
@@ -16,7 +16,7 @@ use crate::surroundings::{Place, is_refused};
 use dom_kinds::{DomError, Kind, may_be_parent};
 use dom_tree::{At, NodeId, Tree};
 
-// Whether a kind may stand nowhere under the other: a Document, a Text under a Document, a doctype under anything else.
+// Returns whether a kind is refused under the other: a Document anywhere, a Text under a Document, a doctype under anything else.
 fn is_misplaced(parent: Kind, kind: Kind) -> bool
     ensures { result ≡ (is_kind Document kind
         || ((is_kind Text kind && is_kind Document parent)
@@ -31,7 +31,7 @@ fn is_misplaced(parent: Kind, kind: Kind) -> bool
     }
 }
 
-// Whether a child is given that does not stand under the parent.
+// Returns whether a child is given that is no child of the parent.
 fn is_elsewhere(tree: &Tree<Content>, parent: NodeId, child: Option<NodeId>) -> bool
     requires { ForSome child (λ c. HasNode tree.now.forest c) }
     ensures { result ≡ if_given (λ c. not (is_number (parent_of tree.now.forest c) parent)) child }
@@ -45,7 +45,7 @@ fn is_elsewhere(tree: &Tree<Content>, parent: NodeId, child: Option<NodeId>) -> 
     }
 }
 
-// The kind of a node.
+// Returns the kind of a node.
 fn kind_at(node: &At<'_, Content>) -> Kind
     ensures { (test : Kind → Bool) → kind_passes test node.now.tree.forest node.now.node
         ≡ test result }
@@ -54,7 +54,7 @@ fn kind_at(node: &At<'_, Content>) -> Kind
     node.label().kind
 }
 
-// Whether a node stands inside another. Nothing is climbed where the other has no children.
+// Returns whether a node is a descendant of another. It climbs nothing if the other has no children.
 fn is_inside(top: &At<'_, Content>, node: At<'_, Content>) -> bool
     requires { node.tree ≡ top.now.tree }
     ensures { result ≡ among node.entry.node (inclusive_descendants top.now.tree.forest
@@ -76,7 +76,7 @@ fn is_inside(top: &At<'_, Content>, node: At<'_, Content>) -> bool
     true
 }
 
-// The check at a place. All refusals but one have one name, so that what costs least is asked first.
+// Checks an insertion point. All refusals but one have the same name, so the cheapest checks come first.
 #[inline(always)]
 fn check(tree: &Tree<Content>, parent: NodeId, node: NodeId, place: Place) -> Result<(), DomError>
     requires parent_held { HasNode tree.now.forest parent }
@@ -110,10 +110,10 @@ fn check(tree: &Tree<Content>, parent: NodeId, node: NodeId, place: Place) -> Re
     Ok(())
 }
 
-/// Whether a node may come in under a parent, before a child of it or last.
+/// Checks whether a node may be inserted under a parent, before a child of it or last.
 ///
-/// The parent must be a kind that may have children and no part of the node's tree, the child must stand under it, and a
-/// Document takes no Text, no second element or doctype, and no element ahead of its doctype.
+/// The parent must be of a kind that may have children, and outside the node's subtree. The child must be its child. A Document refuses a Text, a
+/// second element or doctype, and an element ahead of its doctype.
 pub fn check_insert(
     tree: &Tree<Content>,
     parent: NodeId,
@@ -129,9 +129,9 @@ pub fn check_insert(
     check(tree, parent, node, Place::Before(child))
 }
 
-/// Whether a node may come in under a parent in the place of a child of it.
+/// Checks whether a node may replace a child of a parent.
 ///
-/// It is asked as [`check_insert`] does, but of the children that stay.
+/// Checks as [`check_insert`] does, against the children that stay.
 pub fn check_replace(
     tree: &Tree<Content>,
     parent: NodeId,

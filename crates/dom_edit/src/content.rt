@@ -1,4 +1,4 @@
-//! What a node holds besides its label and its place.
+//! The data or attributes of a node.
 
 ghost use Rattle.std.specs.Prelude.{◌≡◌, ◌-◌, ◌<◌, ◌≤◌, [], Some, take, drop, length, slice_get, option_map, option_copied, unwrap_or, string_bytes, bytes_eq, IfOk, OnOk, OnErr};
 ghost use Rattle.std.specs.List.{IsDistinct};
@@ -16,14 +16,14 @@ use std::alloc::{AllocError, Global};
 use std::marker::Model;
 use std::mem;
 
-// Data and attributes, where there are both.
+// Data and attributes, if there are both.
 #[derive(Drop)]
 struct Parts {
     text: Units,
     attrs: Attrs,
 }
 
-// What there is of data and attributes. No node has both, so both lie in a block of their own, and most nodes are no larger for it.
+// Data or attributes. No node has both, so both are stored in a block of their own, and most nodes stay small.
 #[derive(Drop)]
 enum Held {
     Nothing,
@@ -34,7 +34,7 @@ enum Held {
 }
 
 impl Held {
-    // Data alone, where there is any.
+    // Returns data alone, if there is any.
     fn data(text: Units) -> Held
         ensures text { text_in result ≡ text }
         ensures attributes { attributes_in result ≡ [] }
@@ -45,7 +45,7 @@ impl Held {
         Held::Data(text)
     }
 
-    // What was split off, where any of it is left.
+    // Returns the tail of a split text, unless it is empty.
     fn tail(tail: Box<Tail>) -> Held
         ensures text { text_in result ≡ tail.value }
         ensures attributes { attributes_in result ≡ [] }
@@ -56,7 +56,7 @@ impl Held {
         Held::Tail(tail)
     }
 
-    // Attributes alone, where there are any.
+    // Returns attributes alone, if there are any.
     fn attributes(attrs: Attrs) -> Held
         ensures text { text_in result ≡ [] }
         ensures attributes { attributes_in result ≡ attrs }
@@ -67,7 +67,7 @@ impl Held {
         Held::Attributes(attrs)
     }
 
-    // Both, but for empty ones, which are let go of.
+    // Returns both, without empty ones, which are freed.
     fn both(parts: Box<Parts>) -> Held
         ensures text { text_in result ≡ parts.value.text }
         ensures attributes { attributes_in result ≡ parts.value.attrs }
@@ -79,11 +79,11 @@ impl Held {
     }
 }
 
-/// The data of a node, in UTF-16 units, and its attributes in the order in which their names came.
+/// The data of a node in UTF-16 units, and its attributes in the order in which their names were first set.
 ///
-/// An element without attributes takes no memory beside its node, and a Text or a Comment none but that of its units.
+/// An element without attributes takes no memory beside its node; a Text or a Comment takes that of its units.
 ///
-/// Kinds without data have an empty text, and kinds other than Element no attributes.
+/// Kinds without data have an empty text. Kinds other than Element have no attributes.
 #[derive(Drop)]
 pub struct Content {
     held: Held,
@@ -99,7 +99,7 @@ impl Model for Content {
 }
 
 impl Content {
-    /// Neither data nor attributes. It takes no memory.
+    /// Returns a payload without data and attributes. It takes no memory.
     pub fn nothing() -> Content
         ensures { result ≡ with_text [] }
     {
@@ -108,7 +108,7 @@ impl Content {
         }
     }
 
-    /// Data and attributes. It takes memory where there are both.
+    /// Returns a payload of data and attributes. It takes memory if there are both.
     pub fn new(alloc: Global, text: Units, attrs: Attrs) -> Result<Content, AllocError>
         ensures { IfOk result (λ made. made ≡ record { text = text; attributes = attrs }) }
     {
@@ -128,14 +128,14 @@ impl Content {
         })
     }
 
-    /// Data alone. It takes no memory but that of the data.
+    /// Returns a payload of data alone. It takes no memory beside that of the data.
     pub fn of_text(alloc: Global, text: Units) -> Result<Content, AllocError>
         ensures { IfOk result (λ made. made ≡ with_text text) }
     {
         Content::new(alloc, text, Attrs::new(alloc))
     }
 
-    /// A copy, in memory of its own.
+    /// Returns a copy.
     pub fn try_clone(&self, alloc: Global) -> Result<Content, AllocError>
         ensures { IfOk result (λ copy. copy ≡ self.now) }
     {
@@ -167,7 +167,7 @@ impl Content {
         }
     }
 
-    /// A copy of the attributes, in memory of their own.
+    /// Returns a copy of the attributes.
     pub fn copied_attributes(&self, alloc: Global) -> Result<Attrs, AllocError>
         ensures { IfOk result (λ copy. copy ≡ self.now.attributes) }
     {
@@ -177,7 +177,7 @@ impl Content {
         }
     }
 
-    // The attributes, where there may be any.
+    // Borrows the attributes, if there are any.
     fn attrs(&self) -> Option<&Attrs>
         ensures { unwrap_or (option_copied result) [] ≡ self.now.attributes }
     {
@@ -188,7 +188,7 @@ impl Content {
         }
     }
 
-    /// The data.
+    /// Borrows the data.
     pub fn text(&self) -> &[u16]
         ensures { result.now ≡ self.now.text }
     {
@@ -200,7 +200,7 @@ impl Content {
         }
     }
 
-    /// The number of attributes.
+    /// Returns the number of attributes.
     pub fn attribute_count(&self) -> usize
         ensures len { result ≡ length self.now.attributes }
 
@@ -213,7 +213,7 @@ impl Content {
         }
     }
 
-    /// The value of the attribute of that name ("get an attribute by name").
+    /// Returns the value of the attribute of a name ("get an attribute by name").
     pub fn attribute(&self, name: &str) -> Option<&Units>
         ensures { option_copied result ≡ attribute_value name.now self.now.attributes }
     {
@@ -223,7 +223,7 @@ impl Content {
         }
     }
 
-    /// The attribute at an index, its name and its value.
+    /// Returns the name and value of the attribute at an index.
     pub fn attribute_at(&self, index: usize) -> Option<(&str, &Units)>
         ensures { option_map attribute_at result ≡ slice_get self.now.attributes index }
     {
@@ -233,7 +233,7 @@ impl Content {
         }
     }
 
-    /// The attribute at an index that is below their number.
+    /// Returns the name and value of the attribute at an index below their number.
     pub fn pair_at(&self, index: usize) -> (&str, &Units)
         requires { index < length self.now.attributes }
         ensures { slice_get self.now.attributes index ≡ Some (attribute_at result) }
@@ -241,7 +241,7 @@ impl Content {
         self.attribute_at(index).unwrap()
     }
 
-    /// Whether both have the same attributes, in whatever order.
+    /// Returns whether both have the same attributes, in any order.
     pub fn same_attributes(&self, other: &Content) -> bool
         ensures { result ≡ same_attributes self.now.attributes other.now.attributes }
     {
@@ -254,9 +254,9 @@ impl Content {
         }
     }
 
-    /// Puts `added` in place of the `count` units of the data from `at` on ("replace data").
+    /// Replaces `count` units of the data from `at` on by `added` ("replace data").
     ///
-    /// Where neither a unit nor an attribute is left, all memory is given back.
+    /// If neither units nor attributes are left, all memory is freed.
     pub fn splice(
         &mut self,
         alloc: Global,
@@ -288,7 +288,7 @@ impl Content {
         outcome
     }
 
-    // The same beside attributes, in a copy of both, since no node has both.
+    // Does so in a copy of data and attributes, if there are both. No node has both.
     fn splice_copy(
         &mut self,
         alloc: Global,
@@ -309,9 +309,9 @@ impl Content {
         Ok(())
     }
 
-    /// Takes the units of the data from `at` on out, as the data of another node ("split").
+    /// Splits the units from `at` on off the data, and returns them as the data of another node ("split").
     ///
-    /// It copies the shorter part: the front, or what is beyond, which else stays where it lies.
+    /// Copies the shorter part. If that is the front, the tail stays in the original buffer.
     pub fn split_off(&mut self, alloc: Global, at: usize) -> Result<Content, AllocError>
         requires { at ≤ length self.old.text }
         ensures tail { IfOk result (λ tail. tail ≡ with_text (drop at self.old.text)) }
@@ -328,7 +328,7 @@ impl Content {
         Ok(tail)
     }
 
-    // The same of data alone: the front is copied, and what is beyond stays where it lies.
+    // Splits data alone: copies the front, and keeps the tail in the original buffer.
     fn split_in_place(&mut self, alloc: Global, at: usize) -> Result<Content, AllocError>
         requires within { at ≤ length self.old.text }
         requires alone { self.old.attributes ≡ [] }
@@ -345,7 +345,7 @@ impl Content {
         })
     }
 
-    // The data, where it lies.
+    // Borrows the data from its buffer.
     fn take_data(&mut self, alloc: Global) -> Result<Box<Tail>, AllocError>
         ensures taken { IfOk result (λ tail. tail.value ≡ self.old.text) }
         ensures err { OnErr result (self.new ≡ self.old) }
@@ -369,7 +369,7 @@ impl Content {
         }
     }
 
-    /// Sets the value of an attribute: in place, or last where the name is new. It answers the old value.
+    /// Sets an attribute: changes its value in place, or appends a new one. Returns the old value.
     pub fn set_attribute(
         &mut self,
         alloc: Global,
@@ -395,7 +395,7 @@ impl Content {
         outcome
     }
 
-    // The same beside data, in a copy of both, since no node has both.
+    // Does so in a copy of data and attributes, if there are both. No node has both.
     fn set_in_copy(
         &mut self,
         alloc: Global,
@@ -415,9 +415,9 @@ impl Content {
         Ok(old)
     }
 
-    /// Takes the attribute of that name out ("remove an attribute by name"); those after it move up. It answers the value.
+    /// Removes the attribute of a name ("remove an attribute by name"), and returns its value. Those after it move up.
     ///
-    /// Where neither an attribute nor a unit is left, all memory is given back.
+    /// If neither attributes nor units are left, all memory is freed.
     pub fn remove_attribute(&mut self, name: &str) -> Option<Units>
         ensures value { result ≡ attribute_value name.now self.old.attributes }
         ensures rest { self.new ≡ record self.old {

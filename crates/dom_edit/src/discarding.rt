@@ -1,4 +1,4 @@
-//! Letting go of a tree that nothing names. The DOM Standard leaves it to garbage collection.
+//! Freeing a tree that nothing refers to. The DOM Standard leaves this to garbage collection.
 
 ghost use Rattle.std.specs.Prelude.{◌≡◌, not, false};
 ghost use Rattle.std.specs.List.{list_any};
@@ -14,7 +14,7 @@ use dom_kinds::Kind;
 use dom_tree::NodeId;
 
 impl World {
-    /// Sorts what names nodes, where that was put off, so that [`World::can_discard`] asks the less of it. Its answer is the same without.
+    /// Brings postponed tables of references up to date, so that [`World::can_discard`] is quick. Its result is the same without.
     pub fn catch_up(&mut self)
         ensures { self.new ≡ self.old }
     {
@@ -23,10 +23,10 @@ impl World {
         self.observers.catch_up();
     }
 
-    /// Whether nothing outside of a node and its descendants names one of them: no parent, no node of which one is the node document, no
-    /// range, iterator, walker or registration, and no record that waits.
+    /// Returns whether nothing outside a subtree refers to one of its nodes: no parent, no node document elsewhere, no range, iterator, walker or
+    /// registration, and no waiting record.
     ///
-    /// What was released names nothing. It asks the nodes of that tree, and whatever else names nodes for what it keeps of their numbers.
+    /// Released objects refer to nothing. Looks at the nodes of that subtree, and at the numbers that other parts keep.
     pub fn can_discard(&self, top: NodeId) -> bool
         requires whole { IsWhole self.now }
         requires held { HasNode self.now.tree.forest top }
@@ -40,7 +40,7 @@ impl World {
         !self.tree.is_of_kind(top, Kind::Document) || !self.tree.refers(top)
     }
 
-    // Whether something else than a tree names a node or a descendant of it.
+    // Returns whether another part of the world refers to a node or a descendant of it.
     fn is_named(&self, top: NodeId) -> bool
         requires { HasNode self.now.tree.forest top }
         ensures own { result ≡ list_any (λ m. among m
@@ -55,9 +55,9 @@ impl World {
             || self.observers.refers(&self.tree, top)
     }
 
-    /// Lets go of a node and its descendants. Their numbers are not used again.
+    /// Frees a node and its descendants. Their numbers are not reused.
     ///
-    /// [`World::can_discard`] tells whether nothing names them.
+    /// [`World::can_discard`] tells whether nothing refers to them.
     pub fn discard(&mut self, top: NodeId)
         requires whole { IsWhole self.old }
         requires held { HasNode self.old.tree.forest top }

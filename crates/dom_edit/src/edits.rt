@@ -1,6 +1,6 @@
-//! The edits of a world's trees (DOM Standard, "Mutation algorithms").
+//! Edits of a world's trees (DOM Standard, "Mutation algorithms").
 //!
-//! Each adjusts the live ranges, moves the iterators, makes transient registrations and queues its records, as the standard says.
+//! Each adjusts live ranges, moves iterators, adds transient registrations and queues its records, as the standard says.
 
 ghost use Rattle.std.specs.Prelude.{◌≡◌, [], ◌∷◌, true, false, None, OnOk};
 ghost use Rattle.std.specs.Option.{ForSome};
@@ -31,9 +31,9 @@ use dom_tree::NodeId;
 use std::alloc::{AllocError, Global};
 
 impl World {
-    /// Puts a node, or the children of a fragment, in under a parent, before a child of it or last (pre-insert).
+    /// Inserts a node, or the children of a fragment, under a parent, before a child of it or last (pre-insert).
     ///
-    /// It refuses as [`crate::check_insert`] does. A node that has a parent leaves it first, with a record of its own.
+    /// Refuses as [`crate::check_insert`] does. A node with a parent is removed from it first, with a record of its own.
     pub fn insert_before(
         &mut self,
         alloc: Global,
@@ -63,7 +63,7 @@ impl World {
         Ok(())
     }
 
-    /// Puts a node, or the children of a fragment, in as [`World::insert_before`] does, where nothing refuses it.
+    /// Inserts a node, or the children of a fragment, as [`World::insert_before`] does, after its checks have passed.
     pub fn insert_checked(
         &mut self,
         alloc: Global,
@@ -86,7 +86,7 @@ impl World {
 
     /// Inserts a node, or the children of a fragment, under a parent, before another child of it or last (insert).
     ///
-    /// It asks nothing. The parent may have children and is no part of the node's tree, and the node is of a kind that may stand under it.
+    /// Checks nothing. The parent may have children and is outside the node's subtree, and the node is of a kind that it accepts.
     pub fn insert(
         &mut self,
         alloc: Global,
@@ -110,10 +110,10 @@ impl World {
         self.enter_children(false, node, parent, child, nodes.as_slice())
     }
 
-    /// Inserts a node, or the children of a fragment, as [`World::insert`] does, where no end of a live range stands inside the node.
+    /// Inserts a node, or the children of a fragment, as [`World::insert`] does, if no live range end is inside the node.
     ///
-    /// The children of a fragment then leave it in the same time at any depth: no end is asked whether it stands inside them. What is older than
-    /// a new root and the new parent under which it comes in last is left as it was, also where memory was wanting half-way.
+    /// The children of a fragment then leave it in the same time at any depth, as no end is searched for. Everything older than a new root, and the
+    /// new parent, stays as it was, even if memory ran out half-way.
     pub fn insert_unreferred(
         &mut self,
         alloc: Global,
@@ -137,7 +137,7 @@ impl World {
         self.enter_unreferred(node, parent, child, &incoming)
     }
 
-    /// Puts a node, or the children of a fragment, in as the last of a parent's children (append).
+    /// Appends a node, or the children of a fragment, to a parent (append).
     pub fn append(&mut self, alloc: Global, parent: NodeId, node: NodeId) -> Result<(), Refusal>
         requires whole { IsWhole self.old }
         requires parent_held { HasNode self.old.tree.forest parent }
@@ -153,9 +153,9 @@ impl World {
         self.insert_before(alloc, parent, node, None)
     }
 
-    /// Puts a root with no children in as the last of a parent's children, and answers whether it did. Each of the two numbers is looked up once.
+    /// Fast path: appends a root without children, and returns whether it did. Looks up each of the two numbers once.
     ///
-    /// It does so where nobody observes, and nothing else is to be asked or changed, as [`Tree::put_leaf`] tells. Else nothing has changed, and [`World::append`] does it or refuses.
+    /// Succeeds only if there are no observers and [`Tree::put_leaf`] accepts the node. On `false` nothing has changed; call [`World::append`].
     ///
     /// [`Tree::put_leaf`]: dom_tree::Tree::put_leaf
     #[inline(always)]
@@ -176,9 +176,9 @@ impl World {
         self.observers.is_idle() && self.tree.put_leaf(parent, node)
     }
 
-    /// Puts a node, or the children of a fragment, in the place of a child of a parent (replace).
+    /// Replaces a child of a parent by a node, or by the children of a fragment (replace).
     ///
-    /// It refuses as [`crate::check_replace`] does. The child goes first.
+    /// Refuses as [`crate::check_replace`] does. The child is removed first.
     pub fn replace(
         &mut self,
         alloc: Global,
@@ -215,7 +215,7 @@ impl World {
         Ok(())
     }
 
-    /// Takes a child out of a parent, or refuses with `NotFoundError` where it does not stand under it (pre-remove).
+    /// Removes a child from a parent, or refuses with `NotFoundError` if it is no child of it (pre-remove).
     pub fn remove_child(&mut self, parent: NodeId, child: NodeId) -> Result<(), Refusal>
         requires whole { IsWhole self.old }
         requires parent_held { HasNode self.old.tree.forest parent }
@@ -238,9 +238,9 @@ impl World {
         Ok(())
     }
 
-    /// Takes a node out of its parent; a root stays as it is (remove).
+    /// Removes a node from its parent; a root stays as it is (remove).
     ///
-    /// Memory is wanted for observers alone: after an error the node has left, and some observers may not hear of it.
+    /// Takes memory for observers alone. After an error the node has been removed, and some observers may not be notified.
     pub fn remove(&mut self, node: NodeId) -> Result<(), AllocError>
         requires whole { IsWhole self.old }
         requires held { HasNode self.old.tree.forest node }
@@ -253,9 +253,9 @@ impl World {
         self.remove_node(node, false)
     }
 
-    /// Makes a node, the children of a fragment, or nothing, all that stands under a parent (replace all).
+    /// Replaces all children of a parent by a node, the children of a fragment, or nothing (replace all).
     ///
-    /// It refuses as [`crate::check_insert`] does of the node as the last child, before the children go.
+    /// Refuses as [`crate::check_insert`] does for the node as the last child, before the children are removed.
     pub fn replace_children(
         &mut self,
         alloc: Global,
@@ -284,8 +284,7 @@ impl World {
         Ok(())
     }
 
-    /// Makes a node, the children of a fragment, or nothing, all that stands under a parent as [`World::replace_children`] does, where
-    /// nothing refuses it.
+    /// Replaces all children of a parent as [`World::replace_children`] does, after its checks have passed.
     pub fn replace_children_checked(
         &mut self,
         alloc: Global,
@@ -313,9 +312,9 @@ impl World {
         self.queue_replaced(parent, added, removed.as_slice())
     }
 
-    /// Takes a node out of its parent, and gives it and all that stands under it a node document (adopt).
+    /// Removes a node from its parent, and sets the node document of its subtree (adopt).
     ///
-    /// A Document is refused with `NotSupportedError`.
+    /// Refuses a Document with `NotSupportedError`.
     pub fn adopt(&mut self, document: NodeId, node: NodeId) -> Result<(), Refusal>
         requires whole { IsWhole self.old }
         requires document_kind { is_of_kind Document self.old.tree.forest document ≡ true }
@@ -332,7 +331,7 @@ impl World {
             return Err(Refusal::Dom(DomError::NotSupportedError));
         }
         self.remove_node(node, false)?;
-        // nothing is to be set where the node document stays
+        // nothing to set if the node document stays
         if self.tree.document_of(node) != document {
             self.tree.set_document(node, document);
         }

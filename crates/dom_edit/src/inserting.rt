@@ -1,4 +1,4 @@
-//! Nodes come in under a parent, from wherever they stand (DOM Standard, "Mutation algorithms", insert).
+//! Inserting nodes, wherever they are now (DOM Standard, "Mutation algorithms", insert).
 
 ghost use Rattle.std.specs.Prelude.{◌≡◌, [], ◌∷◌, None, IfOk, OnOk, true, false};
 ghost use Rattle.dom_model.specs.declared.Kind.TheVariants.{DocumentFragment};
@@ -19,7 +19,7 @@ use dom_tree::{NodeId, Tree};
 use std::alloc::{AllocError, Global};
 use std::slice::from_ref;
 
-/// What comes in with a node: the node alone, which is no fragment, or the children of a fragment.
+/// The inserted nodes of a call: the node alone, or the children of a fragment.
 #[derive(Drop)]
 pub(crate) enum Incoming {
     Alone,
@@ -27,7 +27,7 @@ pub(crate) enum Incoming {
 }
 
 impl Incoming {
-    /// The nodes that come in with a node.
+    /// Returns the inserted nodes.
     pub(crate) fn nodes<'a>(&'a self, node: &'a NodeId) -> &'a [NodeId]
         ensures { result.now ≡ brought node.now self.now }
     {
@@ -38,7 +38,7 @@ impl Incoming {
     }
 }
 
-/// The children of a node.
+/// Returns the children of a node.
 pub(crate) fn children(
     tree: &Tree<Content>,
     alloc: Global,
@@ -54,7 +54,7 @@ pub(crate) fn children(
     Ok(list)
 }
 
-/// What comes in with a node. Its kind is asked here.
+/// Returns the inserted nodes for a node, by its kind.
 pub(crate) fn entering(
     tree: &Tree<Content>,
     alloc: Global,
@@ -69,7 +69,7 @@ pub(crate) fn entering(
     Ok(Incoming::Alone)
 }
 
-// What stands before a place under a parent: the sibling before the child, or the last child.
+// Returns the previous sibling at an insertion point: that of the child, or the last child.
 fn previous_to(tree: &Tree<Content>, parent: NodeId, child: Option<NodeId>) -> Option<NodeId>
     requires { IsOpen tree.now.forest parent child [] }
     ensures { result ≡ previous_to tree.now.forest parent child }
@@ -81,7 +81,7 @@ fn previous_to(tree: &Tree<Content>, parent: NodeId, child: Option<NodeId>) -> O
 }
 
 impl World {
-    /// Takes nodes out of where they stand, one after another, with no record.
+    /// Removes nodes from their parents, one after another, without records.
     pub(crate) fn remove_all(&mut self, nodes: &[NodeId]) -> Result<(), AllocError>
         requires whole { IsWhole self.old }
         requires held { AreThere self.old.tree.forest nodes.now }
@@ -95,7 +95,7 @@ impl World {
         Ok(())
     }
 
-    // The children of a parent inside which no live range end stands leave it, one after another, with no record.
+    // Removes the children of a parent that has no live range end inside, one after another, without records.
     fn remove_all_unreferred(&mut self, parent: NodeId, nodes: &[NodeId]) -> Result<(), AllocError>
         requires whole { IsWhole self.old }
         requires nodes { nodes.now ≡ children_of self.old.tree.forest parent }
@@ -111,7 +111,7 @@ impl World {
         Ok(())
     }
 
-    // Queues the record of a fragment that its children left.
+    // Queues the record of a fragment whose children were removed.
     fn queue_emptied(&mut self, node: NodeId, nodes: &[NodeId]) -> Result<(), AllocError>
         requires whole { IsWhole self.old }
         requires held { HasNode self.old.tree.forest node }
@@ -126,7 +126,7 @@ impl World {
         self.queue_tree_record(node, &[], nodes, None, None)
     }
 
-    // Roots come in, with a record or, where it is suppressed or nobody observes, without one.
+    // Inserts roots, with a record unless it is suppressed or nobody observes.
     #[inline(always)]
     fn insert_all(
         &mut self,
@@ -155,12 +155,20 @@ impl World {
         self.queue_tree_record(parent, nodes, &[], previous, child)
     }
 
-    // Room for blocks of a parent's children, where a question about them wanted it. The world stays as it is.
+    // Reserves room for blocks of a parent's children, if there are many. The world's value stays.
     fn make_room_for_blocks(&mut self, parent: NodeId) -> Result<(), AllocError>
         requires { HasNode self.old.tree.forest parent }
         ensures { self.new ≡ self.old }
     {
         self.tree.make_room(parent)
+    }
+
+    // The same for so many children more.
+    fn make_room_for_many(&mut self, parent: NodeId, more: usize) -> Result<(), AllocError>
+        requires { HasNode self.old.tree.forest parent }
+        ensures { self.new ≡ self.old }
+    {
+        self.tree.make_room_for(parent, more)
     }
 
     /// Inserts a node that is no fragment under a parent, before a child of it or last.
@@ -187,7 +195,7 @@ impl World {
         self.insert_all(suppressed, parent, child, &[node])
     }
 
-    /// Inserts a fragment, of which the list is its children, under a parent, before a child of it or last. Nothing is done where it has none.
+    /// Inserts a fragment with the listed children under a parent, before a child of it or last. Does nothing if it has none.
     pub(crate) fn enter_children(
         &mut self,
         suppressed: bool,
@@ -208,13 +216,13 @@ impl World {
         if nodes.is_empty() {
             return Ok(());
         }
-        self.make_room_for_blocks(parent)?;
+        self.make_room_for_many(parent, nodes.len())?;
         self.remove_all(nodes)?;
         self.queue_emptied(node, nodes)?;
         self.insert_all(suppressed, parent, child, nodes)
     }
 
-    // The same of a fragment inside which no live range end stands, with a record: of its children no end is asked for.
+    // Inserts a fragment that has no live range end inside, with a record, and searches for no end.
     fn enter_children_unreferred(
         &mut self,
         node: NodeId,
@@ -236,13 +244,13 @@ impl World {
         if nodes.is_empty() {
             return Ok(());
         }
-        self.make_room_for_blocks(parent)?;
+        self.make_room_for_many(parent, nodes.len())?;
         self.remove_all_unreferred(node, nodes)?;
         self.queue_emptied(node, nodes)?;
         self.insert_all(false, parent, child, nodes)
     }
 
-    /// Inserts a node, of which it is told what comes in with it, under a parent, before a child of it or last.
+    /// Inserts the given nodes under a parent, before a child of it or last.
     pub(crate) fn enter(
         &mut self,
         suppressed: bool,
@@ -267,7 +275,7 @@ impl World {
         }
     }
 
-    /// Inserts a node inside which no live range end stands, of which it is told what comes in with it, with a record.
+    /// Inserts the given nodes, which have no live range end inside, with a record.
     pub(crate) fn enter_unreferred(
         &mut self,
         node: NodeId,

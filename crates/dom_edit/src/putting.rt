@@ -1,4 +1,4 @@
-//! Roots come in under a parent (DOM Standard, "Mutation algorithms", insert; "Live ranges"). Nothing here takes memory.
+//! Inserting roots under a parent (DOM Standard, "Mutation algorithms", insert; "Live ranges"). Nothing here takes memory.
 
 ghost use Rattle.std.specs.Prelude.{◌≡◌, length};
 ghost use Rattle.dom_model.specs.MutationAlgorithms.Editing.{put_all, gap_before};
@@ -13,7 +13,7 @@ use crate::content::Content;
 use crate::world::World;
 use dom_tree::{NodeId, Tree};
 
-// Puts a root in, in the parent's node document. The nodes under it are asked of only where they have another one.
+// Inserts a root and sets its node document. Visits its descendants only if that document changes.
 fn put_in(tree: &mut Tree<Content>, parent: NodeId, child: Option<NodeId>, node: NodeId)
     requires owned { IsOwnedWell tree.old.forest }
     requires ready { IsOpen tree.old.forest parent child (node ∷ []) }
@@ -29,7 +29,7 @@ fn put_in(tree: &mut Tree<Content>, parent: NodeId, child: Option<NodeId>, node:
     }
 }
 
-// Puts roots in, one after another.
+// Inserts roots, one after another.
 fn put_all(tree: &mut Tree<Content>, parent: NodeId, child: Option<NodeId>, nodes: &[NodeId])
     requires owned { IsOwnedWell tree.old.forest }
     requires ready { IsOpen tree.old.forest parent child nodes.now }
@@ -47,7 +47,7 @@ fn put_all(tree: &mut Tree<Content>, parent: NodeId, child: Option<NodeId>, node
 }
 
 impl World {
-    // Live range ends behind a child make room for nodes before it. The child's index is looked for only where an end stands in the parent.
+    // Moves the live range ends behind a child to make room for nodes before it. Looks for the child's index only if an end is in the parent.
     fn make_room(&mut self, parent: NodeId, child: Option<NodeId>, nodes: &[NodeId])
         requires whole { IsWhole self.old }
         requires ready { IsOpen self.old.tree.forest parent child nodes.now }
@@ -70,7 +70,7 @@ impl World {
         self.ranges.gap(parent, index, nodes.len());
     }
 
-    /// Puts roots in under a parent, before a child of it or last, once the live range ends have made room.
+    /// Inserts roots under a parent, before a child of it or last, after live range ends have made room.
     pub(crate) fn place(&mut self, parent: NodeId, child: Option<NodeId>, nodes: &[NodeId])
         requires whole { IsWhole self.old }
         requires ready { IsOpen self.old.tree.forest parent child nodes.now }

@@ -1,4 +1,4 @@
-//! What this crate and those above ask of a node of a tree.
+//! Queries on nodes that several crates need.
 
 ghost use Rattle.std.specs.Prelude.{◌≡◌, true};
 ghost use Rattle.dom_model.specs.declared.Kind.TheVariants.{Document};
@@ -12,7 +12,7 @@ ghost use Rattle.dom_edit.specs.Inserting.{reference_in};
 use crate::content::Content;
 use dom_tree::{NodeId, Tree};
 
-/// What a node comes in before: the child, or the node's next sibling where the child is the node itself; none where it comes in last.
+/// Returns the reference child of an insertion: the child, or the node's next sibling if the child is the node itself; none to append.
 pub fn reference_child(tree: &Tree<Content>, node: NodeId, child: Option<NodeId>) -> Option<NodeId>
     requires { HasNode tree.now.forest node }
     ensures { result ≡ reference_in tree.now.forest node child }
@@ -23,7 +23,7 @@ pub fn reference_child(tree: &Tree<Content>, node: NodeId, child: Option<NodeId>
     }
 }
 
-/// The node document of a node. What it asks of the forest is a part of a whole world.
+/// Returns the node document of a node. Requires only a part of a whole world.
 pub fn document_in(tree: &Tree<Content>, node: NodeId) -> NodeId
     requires held { HasNode tree.now.forest node }
     requires owners { HasOwners tree.now.forest }
@@ -33,7 +33,7 @@ pub fn document_in(tree: &Tree<Content>, node: NodeId) -> NodeId
     tree.document_of(node)
 }
 
-/// The data of a node, lent as the tree keeps it.
+/// Borrows the data of a node from the tree.
 pub fn data_in(tree: &Tree<Content>, node: NodeId) -> &[u16]
     requires held { HasNode tree.now.forest node }
     ensures { result.now ≡ (content_in (entry_in tree.now.forest node)).text }

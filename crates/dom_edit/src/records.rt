@@ -15,9 +15,9 @@ use dom_tree::NodeId;
 use std::alloc::AllocError;
 
 impl World {
-    /// Queues a record of children that came in under a node or left it, for each observer that it interests.
+    /// Queues a record of children that were added to a node or removed from it, for each interested observer.
     ///
-    /// The lists are lent: nothing is copied where it interests nobody, and records are made in the observers' own memory. After an error some observers may have their record and others not.
+    /// Borrows the lists: copies nothing if nobody is interested. After an error some observers may have their record and others not.
     pub(crate) fn queue_tree_record<'a>(
         &mut self,
         target: NodeId,

@@ -1,11 +1,11 @@
-//! Why a call on a world did nothing, or not all of it.
+//! Why a call on a world failed.
 
 use dom_kinds::DomError;
 use std::alloc::AllocError;
 
-/// The name of the standard's exception, or want of memory.
+/// The standard's exception, or out of memory.
 ///
-/// An exception leaves the world as it was. Where memory was wanting the world is whole, but an edit may be half made.
+/// An exception leaves the world as it was. After out of memory the world is whole, but an edit may be half done.
 #[derive(Clone, Copy, Debug, PartialEq, Eq)]
 pub enum Refusal {
     Dom(DomError),

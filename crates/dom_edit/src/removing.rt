@@ -1,4 +1,4 @@
-//! A node leaves its parent (DOM Standard, "Mutation algorithms", remove).
+//! Removing a node from its parent (DOM Standard, "Mutation algorithms", remove).
 
 ghost use Rattle.std.specs.Prelude.{◌≡◌, [], ◌∷◌, true, false, Some, None, OnOk, IfSome, MatchOption};
 ghost use Rattle.std.specs.Option.{ForSome};
@@ -22,7 +22,7 @@ use dom_observe::Mutation;
 use dom_tree::{At, NodeId, Tree};
 use std::alloc::AllocError;
 
-// Where a child stands: under its parent, between two siblings.
+// A child's neighbours: its parent and two siblings.
 #[derive(Clone, Copy)]
 struct Seat {
     parent: NodeId,
@@ -30,7 +30,7 @@ struct Seat {
     next: Option<NodeId>,
 }
 
-// The number of a node, where there is one.
+// Returns the number of a node, if there is one.
 fn number(node: Option<At<'_, Content>>) -> Option<NodeId>
     ensures { result ≡ node_at node.entry }
 {
@@ -40,7 +40,7 @@ fn number(node: Option<At<'_, Content>>) -> Option<NodeId>
     }
 }
 
-// Where a node stands; none for a root. It is looked up once.
+// Returns a node's neighbours, or none for a root, with one look-up.
 fn seat_of(tree: &Tree<Content>, node: NodeId) -> Option<Seat>
     requires { HasNode tree.now.forest node }
     ensures { MatchOption result (parent_of tree.now.forest node
@@ -58,7 +58,7 @@ fn seat_of(tree: &Tree<Content>, node: NodeId) -> Option<Seat>
 }
 
 impl World {
-    // Makes the index of a child known where an end stands in its parent. The ends asked for it, and will ask for those of its siblings.
+    // Caches the index of a child if an end is in its parent: the ends need it now, and those of its siblings next.
     fn find_index(&mut self, parent: NodeId, node: NodeId)
         requires { HasNode self.old.tree.forest node }
         ensures { self.new ≡ self.old }
@@ -68,7 +68,7 @@ impl World {
         }
     }
 
-    // Iterators give way, and then the node becomes a root.
+    // Moves iterators away, and then makes the node a root.
     fn cut_out(&mut self, parent: NodeId, node: NodeId)
         requires held { HasNode self.old.tree.forest node }
         requires child { parent_of self.old.tree.forest node ≡ Some parent }
@@ -82,7 +82,7 @@ impl World {
         self.tree.cut(node);
     }
 
-    // Live range ends and iterators give way, and then the node becomes a root.
+    // Moves live range ends and iterators away, and then makes the node a root.
     fn take_out(&mut self, parent: NodeId, node: NodeId)
         requires whole { IsWhole self.old }
         requires child { parent_of self.old.tree.forest node ≡ Some parent }
@@ -95,7 +95,7 @@ impl World {
         self.cut_out(parent, node);
     }
 
-    // A node that left its parent is still watched as the parent is; nothing is looked for where nobody observes.
+    // Adds transient registrations to a removed node; searches for nothing if nobody observes.
     fn make_transients(&mut self, parent: NodeId, node: NodeId) -> Result<(), AllocError>
         requires whole { IsWhole self.old }
         requires held { HasNode self.old.tree.forest parent }
@@ -113,7 +113,7 @@ impl World {
         self.observers.transients(&self.tree, parent, node)
     }
 
-    // The same, and then a record of it for each observer that it interests, with one climb for both.
+    // Adds transient registrations, and then queues a record for each interested observer, with one climb for both.
     fn note_removal(
         &mut self,
         parent: NodeId,
@@ -146,7 +146,7 @@ impl World {
         self.observers.removed(&self.tree, node, &mutation)
     }
 
-    /// Takes a node out of its parent, with a record of it or, where it is suppressed, without one. A root stays as it is.
+    /// Removes a node from its parent, with a record unless it is suppressed. A root stays as it is.
     pub(crate) fn remove_node(&mut self, node: NodeId, suppressed: bool) -> Result<(), AllocError>
         requires whole { IsWhole self.old }
         requires held { HasNode self.old.tree.forest node }
@@ -169,7 +169,7 @@ impl World {
         self.note_removal(parent, node, previous, next)
     }
 
-    /// Takes a child out of a parent inside which no live range end stands, with no record of it.
+    /// Removes a child from a parent that has no live range end inside, without a record.
     pub(crate) fn remove_unreferred(
         &mut self,
         parent: NodeId,

@@ -1,4 +1,4 @@
-//! Nodes come in where others stood (DOM Standard, "Mutation algorithms", pre-insert, replace, replace all).
+//! Inserting nodes in the place of others (DOM Standard, "Mutation algorithms", pre-insert, replace, replace all).
 
 ghost use Rattle.std.specs.Prelude.{◌≡◌, Some, None, MatchResult, IfOk, OnOk, true};
 ghost use Rattle.std.specs.Option.{ForSome};
@@ -18,7 +18,7 @@ use dom_kinds::DomError;
 use dom_tree::{NodeId, Tree};
 use std::alloc::{AllocError, Global};
 
-/// What comes in with a node; no children where none is given.
+/// Returns the inserted nodes for a node; none if no node is given.
 pub(crate) fn entering_if_any(
     tree: &Tree<Content>,
     alloc: Global,
@@ -33,7 +33,7 @@ pub(crate) fn entering_if_any(
     }
 }
 
-/// The nodes that come in with a node; none where none is given.
+/// Returns the inserted nodes; none if no node is given.
 pub(crate) fn nodes_if_any<'a>(node: &'a Option<NodeId>, incoming: &'a Incoming) -> &'a [NodeId]
     ensures { result.now ≡ brought_if_any node.now incoming.now }
 {
@@ -43,7 +43,7 @@ pub(crate) fn nodes_if_any<'a>(node: &'a Option<NodeId>, incoming: &'a Incoming)
     }
 }
 
-/// The check of a node, or of nothing, as the only child of a parent.
+/// Checks a node, or nothing, as the only child of a parent.
 pub(crate) fn check_only_child(
     tree: &Tree<Content>,
     parent: NodeId,
@@ -61,7 +61,7 @@ pub(crate) fn check_only_child(
 }
 
 impl World {
-    /// Inserts a node, of which it is told what comes in with it, as the last of a parent's children, with no record. Nothing is done where none is given.
+    /// Appends the given nodes to a parent without a record. Does nothing if no node is given.
     pub(crate) fn insert_if_any(
         &mut self,
         node: Option<NodeId>,
@@ -83,7 +83,7 @@ impl World {
         }
     }
 
-    /// Queues a record of what replaced the children of a parent, where something came in or left.
+    /// Queues a record of replaced children, if any were inserted or removed.
     pub(crate) fn queue_replaced(
         &mut self,
         parent: NodeId,

@@ -1,4 +1,4 @@
-//! What stands among the children of a Document, around the place where a node is to come in.
+//! The element and doctype children of a Document, on both sides of an insertion point.
 
 ghost use Rattle.std.specs.Prelude.{◌≡◌, ℕ, ◌||◌, [], ◌∷◌, IfSome};
 ghost use Rattle.dom_model.specs.declared.Kind.TheVariants.{Element, DocumentType, DocumentFragment};
@@ -12,7 +12,7 @@ use crate::content::Content;
 use dom_kinds::Kind;
 use dom_tree::{NodeId, Tree};
 
-/// Where a node is to come in: before a child or last, or in the place of a child.
+/// An insertion point: before a child, last, or in the place of a child.
 #[derive(Clone, Copy)]
 pub(crate) enum Place {
     Before(Option<NodeId>),
@@ -20,7 +20,7 @@ pub(crate) enum Place {
 }
 
 impl Place {
-    /// The child that is named.
+    /// Returns the named child.
     pub(crate) fn child(&self) -> Option<NodeId>
         ensures { result ≡ child_of self.now }
     {
@@ -30,7 +30,7 @@ impl Place {
         }
     }
 
-    // Whether that child stays.
+    // Returns whether that child stays.
     fn keeps_child(&self) -> bool
         ensures { result ≡ keeps_child self.now }
     {
@@ -41,7 +41,7 @@ impl Place {
     }
 }
 
-/// Whether elements and doctypes stand among some nodes.
+/// Whether some nodes have elements and doctypes among them.
 #[derive(Clone, Copy)]
 pub(crate) struct Found {
     element: bool,
@@ -53,7 +53,7 @@ const NOTHING: Found = Found {
     doctype: false,
 };
 
-// Whether the number is given, and is the node's.
+// Returns whether the number is given, and is the node's.
 fn is_number(given: Option<NodeId>, node: NodeId) -> bool
     ensures { result ≡ is_number given node }
 {
@@ -63,7 +63,7 @@ fn is_number(given: Option<NodeId>, node: NodeId) -> bool
     }
 }
 
-// Whether a node is an element or a doctype.
+// Returns whether a node is an element or a doctype.
 fn found_at(tree: &Tree<Content>, node: NodeId) -> Found
     requires { HasNode tree.now.forest node }
     ensures { IsFound tree.now.forest (node ∷ []) result }
@@ -74,7 +74,7 @@ fn found_at(tree: &Tree<Content>, node: NodeId) -> Found
     }
 }
 
-// What stands among the children of a node from one of them on, and ahead of another.
+// Returns which kinds are among the children of a node from one child on, up to another.
 fn found_between(
     tree: &Tree<Content>,
     parent: NodeId,
@@ -102,8 +102,7 @@ fn found_between(
     found
 }
 
-// What stands around a place among the children of a Document: ahead of the child that it names, at the child where that stays,
-// and after it.
+// The kinds around an insertion point in a Document: ahead of its child, at the child if that stays, and after it.
 #[derive(Clone, Copy)]
 struct Around {
     ahead: Found,
@@ -112,7 +111,7 @@ struct Around {
 }
 
 impl Around {
-    // Whether an element is refused: there is another, or a doctype does not come first.
+    // Returns whether an element is refused: there is another, or a doctype would follow it.
     fn refuses_element(&self) -> bool
         ensures { result ≡ (self.now.ahead.element
             || (self.now.at.element || (self.now.past.element
@@ -125,7 +124,7 @@ impl Around {
             || self.past.doctype
     }
 
-    // Whether a doctype is refused: there is another, or an element comes first.
+    // Returns whether a doctype is refused: there is another, or an element precedes it.
     fn refuses_doctype(&self) -> bool
         ensures { result ≡ (self.now.ahead.doctype
             || (self.now.at.doctype || (self.now.past.doctype || self.now.ahead.element))) }
@@ -134,7 +133,7 @@ impl Around {
     }
 }
 
-// What stands around a place, in one pass over the children.
+// Collects the kinds around an insertion point in one pass over the children.
 fn look_around(tree: &Tree<Content>, document: NodeId, place: Place) -> Around
     requires held { HasNode tree.now.forest document }
     requires under { IsUnder tree.now.forest document place }
@@ -161,7 +160,7 @@ fn look_around(tree: &Tree<Content>, document: NodeId, place: Place) -> Around
     }
 }
 
-// How many children of a node are of a kind.
+// Returns how many children of a node are of a kind.
 fn count_children(tree: &Tree<Content>, parent: NodeId, kind: Kind) -> usize
     requires { HasNode tree.now.forest parent }
     ensures { result ≡ count_kind kind tree.now.forest (children_of tree.now.forest parent) }
@@ -178,7 +177,7 @@ fn count_children(tree: &Tree<Content>, parent: NodeId, kind: Kind) -> usize
     count
 }
 
-// Whether a child of a node is of a kind.
+// Returns whether a child of a node is of a kind.
 fn has_child(tree: &Tree<Content>, parent: NodeId, kind: Kind) -> bool
     requires { HasNode tree.now.forest parent }
     ensures { result ≡ has_kind kind tree.now.forest (children_of tree.now.forest parent) }
@@ -186,7 +185,7 @@ fn has_child(tree: &Tree<Content>, parent: NodeId, kind: Kind) -> bool
     count_children(tree, parent, kind) != 0
 }
 
-// How many nodes of a kind stand around a place among the children of a Document, where that is known without a look at them.
+// Returns how many children of a kind stay around an insertion point in a Document, if the cached counts tell.
 fn count_around(tree: &Tree<Content>, document: NodeId, place: Place, kind: Kind) -> Option<u32>
     requires held { HasNode tree.now.forest document }
     requires under { IsUnder tree.now.forest document place }
@@ -201,7 +200,7 @@ fn count_around(tree: &Tree<Content>, document: NodeId, place: Place, kind: Kind
     }
 }
 
-// Whether a Document refuses an element at a place, where the counts of its children tell: there is another, or no doctype can be past it.
+// Returns whether a Document refuses an element at an insertion point, if the counts tell: there is another, or no doctype can follow.
 fn element_by_count(tree: &Tree<Content>, document: NodeId, place: Place) -> Option<bool>
     requires held { HasNode tree.now.forest document }
     requires under { IsUnder tree.now.forest document place }
@@ -223,7 +222,7 @@ fn element_by_count(tree: &Tree<Content>, document: NodeId, place: Place) -> Opt
     None
 }
 
-// Whether a Document refuses a doctype at a place, where the counts of its children tell: there is another, or no element, or each element is ahead of it.
+// Returns whether a Document refuses a doctype at an insertion point, if the counts tell: there is another, no element, or each element precedes it.
 fn doctype_by_count(tree: &Tree<Content>, document: NodeId, place: Place) -> Option<bool>
     requires held { HasNode tree.now.forest document }
     requires under { IsUnder tree.now.forest document place }
@@ -245,7 +244,7 @@ fn doctype_by_count(tree: &Tree<Content>, document: NodeId, place: Place) -> Opt
     None
 }
 
-// Whether a Document refuses an element at a place, by a walk over its children.
+// Returns whether a Document refuses an element at an insertion point, by a walk over its children.
 fn element_by_walk(tree: &Tree<Content>, document: NodeId, place: Place) -> bool
     requires held { HasNode tree.now.forest document }
     requires under { IsUnder tree.now.forest document place }
@@ -255,7 +254,7 @@ fn element_by_walk(tree: &Tree<Content>, document: NodeId, place: Place) -> bool
     look_around(tree, document, place).refuses_element()
 }
 
-// Whether a Document refuses an element at a place.
+// Returns whether a Document refuses an element at an insertion point.
 fn refuses_element(tree: &Tree<Content>, document: NodeId, place: Place) -> bool
     requires held { HasNode tree.now.forest document }
     requires under { IsUnder tree.now.forest document place }
@@ -268,7 +267,7 @@ fn refuses_element(tree: &Tree<Content>, document: NodeId, place: Place) -> bool
     element_by_walk(tree, document, place)
 }
 
-// Whether a Document refuses a doctype at a place, by a walk over its children.
+// Returns whether a Document refuses a doctype at an insertion point, by a walk over its children.
 fn doctype_by_walk(tree: &Tree<Content>, document: NodeId, place: Place) -> bool
     requires held { HasNode tree.now.forest document }
     requires under { IsUnder tree.now.forest document place }
@@ -278,7 +277,7 @@ fn doctype_by_walk(tree: &Tree<Content>, document: NodeId, place: Place) -> bool
     look_around(tree, document, place).refuses_doctype()
 }
 
-// Whether a Document refuses a doctype at a place.
+// Returns whether a Document refuses a doctype at an insertion point.
 fn refuses_doctype(tree: &Tree<Content>, document: NodeId, place: Place) -> bool
     requires held { HasNode tree.now.forest document }
     requires under { IsUnder tree.now.forest document place }
@@ -291,7 +290,7 @@ fn refuses_doctype(tree: &Tree<Content>, document: NodeId, place: Place) -> bool
     doctype_by_walk(tree, document, place)
 }
 
-// Whether a Document refuses the children of a fragment at a place: more than one element, a Text, or an element that it refuses.
+// Returns whether a Document refuses the children of a fragment: more than one element, a Text, or an element that it refuses.
 fn refuses_fragment(tree: &Tree<Content>, document: NodeId, fragment: NodeId, place: Place) -> bool
     requires held { HasNode tree.now.forest document }
     requires fragment_held { HasNode tree.now.forest fragment }
@@ -305,7 +304,7 @@ fn refuses_fragment(tree: &Tree<Content>, document: NodeId, fragment: NodeId, pl
     elements == 1 && refuses_element(tree, document, place)
 }
 
-/// Whether a Document refuses a node of a kind at a place, for the children that it has.
+/// Returns whether a Document with its present children refuses a node of a kind at an insertion point.
 pub(crate) fn is_refused(
     tree: &Tree<Content>,
     document: NodeId,

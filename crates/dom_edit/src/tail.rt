@@ -1,4 +1,4 @@
-//! Units that were split off a text, and stay where they lie.
+//! The tail of a split text, kept in the original buffer.
 
 ghost use Rattle.std.specs.Prelude.{◌≡◌, ◌-◌, ◌≤◌, [], drop, length, IsTrue, ◌↔◌, OnOk, OnErr};
 ghost use Rattle.dom_model.specs.Forests.Texts.{spliced};
@@ -7,7 +7,7 @@ use dom_units::{Units, units_within};
 use std::alloc::{AllocError, Global};
 use std::marker::Model;
 
-/// The units of a text behind its first ones, which are passed over. Where more are passed over than are left they are taken out.
+/// The units of a buffer after a skipped front. Once more units are skipped than are left, the front is removed.
 #[derive(Drop)]
 pub(crate) struct Tail {
     text: Units,
@@ -25,21 +25,21 @@ impl Model for Tail {
 }
 
 impl Tail {
-    /// No unit.
+    /// Returns an empty tail.
     pub(crate) fn new(alloc: Global) -> Tail
         ensures { result ≡ [] }
     {
         Tail::of(Units::new(alloc))
     }
 
-    /// A whole text.
+    /// Returns a tail that is a whole text.
     pub(crate) fn of(text: Units) -> Tail
         ensures { result ≡ text }
     {
         Tail { text, passed: 0 }
     }
 
-    /// The units.
+    /// Borrows the units.
     pub(crate) fn units(&self) -> &[u16]
         ensures { result.now ≡ self.now }
     {
@@ -47,14 +47,14 @@ impl Tail {
         units_within(self.text.units(), self.passed, count)
     }
 
-    /// Whether no unit is left.
+    /// Returns whether no unit is left.
     pub(crate) fn is_empty(&self) -> bool
         ensures { IsTrue result ↔ (self.now ≡ []) }
     {
         self.units().is_empty()
     }
 
-    /// Puts `added` in place of the `count` units from `at` on ("replace data").
+    /// Replaces `count` units from `at` on by `added` ("replace data").
     pub(crate) fn splice(
         &mut self,
         at: usize,
@@ -73,7 +73,7 @@ impl Tail {
         outcome
     }
 
-    /// Passes over so many more units.
+    /// Skips `count` more units at the front.
     pub(crate) fn pass(&mut self, count: usize)
         requires { count ≤ length self.old }
         ensures { self.new ≡ drop count self.old }
@@ -84,7 +84,7 @@ impl Tail {
         self.close_up();
     }
 
-    // Takes out what is passed over, where that is more than what is left.
+    // Removes the skipped units if they are more than those left.
     fn close_up(&mut self)
         ensures { self.new ≡ self.old }
     {

@@ -1,4 +1,4 @@
-//! The world of a session: its nodes, and all that refers to them.
+//! The world of a session: its nodes, and everything that refers to them.
 
 ghost use Rattle.std.specs.Prelude.{◌≡◌, ◌<◌, [], true, None, IfOk, OnOk, OnErr, unwrap_or};
 ghost use Rattle.std.specs.Option.{ForSome};
@@ -21,8 +21,8 @@ use std::alloc::{AllocError, Global};
 
 /// The nodes of a session, its live and static ranges, iterators and walkers, and its observers.
 ///
-/// Each part can be borrowed beside the others. Whoever changes one keeps the world whole: what a part names is held by the tree, every
-/// node is covered by the ranges, each live range and iterator is in order.
+/// Each part can be borrowed beside the others. Whoever changes one keeps the world whole: the tree holds every node that a part names, ranges cover
+/// every node, and live ranges and iterators are in order.
 pub struct World {
     pub tree: Tree<Content>,
     pub ranges: Ranges,
@@ -32,7 +32,7 @@ pub struct World {
     pub observers: Observers,
 }
 
-// Whoever owns a world lets go of it by one call, and not part by part.
+// Frees a world by one call, so that a caller's proof has one step for it.
 impl Drop for World {
     fn drop(self) {
         let World {
@@ -47,7 +47,7 @@ impl Drop for World {
 }
 
 impl World {
-    // A world without nodes.
+    // Returns a world without nodes.
     fn empty(alloc: Global) -> World
         ensures tree { result.tree ≡ record { forest = empty; made = 0 } }
         ensures ranges { result.ranges ≡ record { ranges = []; covered = [] } }
@@ -66,7 +66,7 @@ impl World {
         }
     }
 
-    /// A world with one node, a Document that is numbered 0.
+    /// Returns a world with one node, a Document with number 0.
     pub fn new(alloc: Global) -> Result<World, AllocError>
         ensures { IfOk result (λ world. Shows world first_world) }
     {
@@ -76,7 +76,7 @@ impl World {
         Ok(world)
     }
 
-    /// Makes a root with no children, in the given document or, where there is none, in itself. Its number is the next one.
+    /// Makes a root without children, with the given node document, or itself if none is given. It gets the next number.
     pub fn make(
         &mut self,
         label: Label,

@@ -1,4 +1,4 @@
-//! Transient registrations that are added, and what stands on the ancestors of a node.
+//! Adding transient registrations, and the registrations of a node's ancestors.
 
 ghost use Rattle.std.specs.Prelude.{◌≡◌, ◌≢◌, ◌++◌, ℕ, Bool, List, OnOk, OnErr, IfOk, filter, flat_map, option_map, true, false};
 ghost use Rattle.std.specs.List.{AllByRecursion};
@@ -21,7 +21,8 @@ use dom_tree::{NodeId, Tree};
 use indexmap::IndexSet;
 use std::alloc::{AllocError, Global};
 
-// Whether a node with these keys gets a transient registration from another: that has subtree, and none of its observer and origin is there yet.
+// Returns whether a node with these keys gets a transient registration from another: that has subtree, and the node has none of its observer and
+// origin.
 fn gives(
     registrations: &Registrations,
     own: &[usize],
@@ -36,7 +37,7 @@ fn gives(
         && !origins.has(registrations, own, registration.observer, origin)
 }
 
-// The transient registration that a node with these keys gets from what stands under a key.
+// Returns the transient registration that a node with these keys gets from the one under a key.
 fn transient_of(
     registrations: &Registrations,
     own: &[usize],
@@ -56,7 +57,7 @@ fn transient_of(
     }
 }
 
-// Puts a transient registration on a node for each registration with subtree among those under the keys, once for each observer and origin.
+// Adds a transient registration to a node for each registration with subtree under the keys, once for each observer and origin.
 pub(crate) fn add_transients(
     registrations: &mut Registrations,
     roster: &mut Roster,
@@ -124,7 +125,7 @@ pub(crate) fn add_transients(
     Ok(())
 }
 
-// Puts keys last; where there are none, as on most nodes, nothing is copied.
+// Appends keys; copies nothing if there are none, as at most nodes.
 #[inline(always)]
 fn push_all(keys: &mut Vec<usize>, more: &[usize]) -> Result<(), AllocError>
     ensures { OnOk result (keys.new.items ≡ keys.old.items ++ more.now) }
@@ -135,7 +136,7 @@ fn push_all(keys: &mut Vec<usize>, more: &[usize]) -> Result<(), AllocError>
     keys.extend_from_slice(more)
 }
 
-// The keys of the registrations that stand on the inclusive ancestors of a node, from the node upwards.
+// Returns the keys of the registrations at a node's inclusive ancestors, from the node upwards.
 pub(crate) fn find_standing<X>(
     registrations: &Registrations,
     tree: &Tree<X>,
@@ -158,7 +159,7 @@ pub(crate) fn find_standing<X>(
     }
 }
 
-// Whether the registration under a key has subtree.
+// Returns whether the registration under a key has subtree.
 fn is_deep(registrations: &Registrations, key: usize) -> bool
     ensures { result ≡ deep_at (at registrations.now) key }
 {
@@ -168,7 +169,7 @@ fn is_deep(registrations: &Registrations, key: usize) -> bool
     }
 }
 
-// Puts the keys whose registrations have subtree last.
+// Appends the keys whose registrations have subtree.
 fn push_deep(
     keys: &mut Vec<usize>,
     registrations: &Registrations,
@@ -185,7 +186,7 @@ fn push_deep(
     Ok(())
 }
 
-// The keys of the registrations with subtree that stand on the inclusive ancestors of a node, from the node upwards.
+// Returns the keys of the registrations with subtree at a node's inclusive ancestors, from the node upwards.
 pub(crate) fn find_standing_deep<X>(
     registrations: &Registrations,
     tree: &Tree<X>,

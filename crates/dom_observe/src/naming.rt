@@ -1,4 +1,4 @@
-//! Which nodes the registrations and the records that wait name.
+//! Which nodes registrations and waiting records refer to.
 
 ghost use Rattle.std.specs.Prelude.{◌≡◌, ◌||◌, flat_map};
 ghost use Rattle.std.specs.List.{list_any};
@@ -15,9 +15,9 @@ use crate::roster::Roster;
 use dom_tree::{NodeId, Tree};
 use indexmap::IndexSet;
 
-// Whether a registration stands on a node inside another.
+// Returns whether a registration is at a node inside a subtree.
 //
-// It walks the nodes inside, or climbs from each node with a registration where that takes fewer steps.
+// Walks the subtree, or climbs from each node with a registration if that takes fewer steps.
 pub(crate) fn is_named<X>(tree: &Tree<X>, top: NodeId, registrations: &Registrations) -> bool
     requires { HasNode tree.now.forest top }
     ensures { result ≡ list_any (λ m. among m (inclusive_descendants tree.now.forest top))
@@ -28,7 +28,7 @@ pub(crate) fn is_named<X>(tree: &Tree<X>, top: NodeId, registrations: &Registrat
         .unwrap_or_else(|| registrations.stand_inside(tree, top))
 }
 
-// Whether a record that waits for one of some observers names a node inside.
+// Returns whether a waiting record of one of some observers refers to a node inside a subtree.
 fn is_told_by<X>(
     tree: &Tree<X>,
     top: NodeId,
@@ -49,7 +49,7 @@ fn is_told_by<X>(
     false
 }
 
-// Whether a record that waits for a pending observer names a node inside, or one for an observer that was taken from them and not told since.
+// Returns whether a waiting record refers to a node inside a subtree: one of a pending observer, or of one that was taken and not notified since.
 pub(crate) fn is_told<X>(
     tree: &Tree<X>,
     top: NodeId,

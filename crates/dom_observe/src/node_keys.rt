@@ -1,4 +1,4 @@
-//! The keys of the registrations on a node, in the order of these.
+//! The keys of a node's registrations, in their order.
 
 ghost use Rattle.std.specs.Prelude.{◌≡◌, ℕ, ◌<◌, ◌==◌, ◌++◌, [], ◌∷◌, length, remove, filter, IfOk, OnOk, OnErr, nat_eq, if◌then◌else◌};
 ghost use Rattle.indexmap.specs.IndexMap.{IsUnique};
@@ -13,7 +13,7 @@ use slab::Slab;
 use std::alloc::{AllocError, Global};
 use std::marker::Model;
 
-/// Keys behind the first ones, which are passed over. Where more are passed over than are left they are taken out.
+/// Keys after a skipped front. Once more keys are skipped than are left, the front is removed.
 #[derive(Drop)]
 pub(crate) struct NodeKeys {
     all: Vec<usize>,
@@ -32,7 +32,7 @@ impl Model for NodeKeys {
 }
 
 impl NodeKeys {
-    /// One key.
+    /// Returns a list of one key.
     pub(crate) fn one(key: usize, alloc: Global) -> Result<NodeKeys, AllocError>
         ensures { IfOk result (λ keys. keys.items ≡ key ∷ []) }
     {
@@ -40,7 +40,7 @@ impl NodeKeys {
         Ok(NodeKeys { all, passed: 0 })
     }
 
-    /// The keys.
+    /// Borrows the keys.
     pub(crate) fn as_slice(&self) -> &[usize]
         ensures { result.now ≡ self.now.items }
     {
@@ -48,14 +48,14 @@ impl NodeKeys {
         &all[self.passed..]
     }
 
-    /// Whether no key is left.
+    /// Returns whether no key is left.
     pub(crate) fn is_empty(&self) -> bool
         ensures { result ≡ (length self.now.items == 0) }
     {
         self.as_slice().is_empty()
     }
 
-    /// Puts a key last.
+    /// Appends a key.
     pub(crate) fn push(&mut self, key: usize) -> Result<(), AllocError>
         ensures ok { OnOk result (self.new.items ≡ self.old.items ++ key ∷ []) }
         ensures err { OnErr result (self.new.items ≡ self.old.items) }
@@ -64,7 +64,7 @@ impl NodeKeys {
         Ok(())
     }
 
-    /// Takes out the key in a place. Those ahead of it move, or those behind it, whichever are fewer.
+    /// Removes the key at an index. Moves the keys on the shorter side.
     pub(crate) fn remove(&mut self, place: usize)
         requires { place < length self.old.items }
         ensures { self.new.items ≡ remove self.old.items place }
@@ -82,7 +82,7 @@ impl NodeKeys {
         self.close_up();
     }
 
-    /// Takes out the keys under which nothing is left.
+    /// Removes the keys whose registrations ended.
     pub(crate) fn prune(&mut self, table: &Slab<Registration>)
         ensures { self.new.items ≡ filter (is_live (in_table table.now)) self.old.items }
     {
@@ -91,7 +91,7 @@ impl NodeKeys {
         prune(table, &mut self.all);
     }
 
-    // Takes out what is passed over, where that is more than what is left.
+    // Removes the skipped front if it is longer than the rest.
     fn close_up(&mut self)
         ensures { self.new.items ≡ self.old.items }
     {
@@ -102,7 +102,7 @@ impl NodeKeys {
     }
 }
 
-// Puts a key last among those of a node.
+// Appends a key to those of a node.
 pub(crate) fn put_key(
     nodes: &mut IndexMap<u32, NodeKeys>,
     node: NodeId,

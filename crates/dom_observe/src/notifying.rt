@@ -1,4 +1,4 @@
-//! The records that pending observers are told.
+//! The records with which pending observers are notified.
 
 ghost use Rattle.std.specs.Prelude.{◌≡◌, ℕ, Bool, if◌then◌else◌, [], filter, map, nat_eq, true, OnOk, OnErr, IfOk};
 ghost use Rattle.std.specs.List.{IsDistinct};
@@ -16,9 +16,9 @@ use crate::roster::Roster;
 use indexmap::IndexSet;
 use std::alloc::{AllocError, Global};
 
-// Takes the records of the pending observers out of their queues, in order; an observer whose queue is empty is left out.
+// Takes the records of the pending observers from their queues, in order, and leaves out empty queues.
 //
-// There is room for all of them before the first is taken.
+// Reserves room for all of them before it takes the first.
 pub(crate) fn gather(
     pending: &IndexSet<ObserverId>,
     roster: &mut Roster,

@@ -6,5 +6,5 @@ use dom_ids::Id;
 #[derive(Clone, Copy, Debug, PartialEq, Eq, Hash, Drop)]
 pub struct OfObserver;
 
-/// The number by which callers name an observer: the first that is made has 0, and no number is used again.
+/// The number of an observer. The first is 0, and no number is reused.
 pub type ObserverId = Id<OfObserver>;

@@ -34,21 +34,21 @@ use std::alloc::{AllocError, Global};
 use std::marker::Model;
 use std::rc::Rc;
 
-/// Observers, who is registered on which node, and the records that wait for them.
+/// Observers, their registrations by node, and their waiting records.
 ///
-/// It takes memory for each registration, for each record and the nodes that it names, and none for a node that nobody observes, nor for an
-/// observer that was released. Room for the registrations that stand above a node is kept from one change to the next.
+/// Takes memory for each registration, each record and the nodes in it, and none for a node that nobody observes or for a released observer. The
+/// buffer for registrations above a node is kept from one change to the next.
 #[derive(Drop)]
 pub struct Observers {
     registrations: Registrations,
-    // what is kept of each observer
+    // state of each observer
     roster: Roster,
     // the observers that may have transient registrations
     fleeting: IndexSet<ObserverId>,
     pending: IndexSet<ObserverId>,
-    // those that were taken from the pending ones and not told since: records may wait for them too
+    // observers that were taken from the pending list and not notified since: records may wait for them too
     untold: IndexSet<ObserverId>,
-    // the keys of the registrations that stood above a node that was last asked for, so that the next change has room for them
+    // buffer for the keys of the registrations above a node, reused by the next change
     standing: Vec<usize>,
     alloc: Global,
 }
@@ -74,7 +74,7 @@ impl Model for Observers {
 }
 
 impl Observers {
-    /// No observer.
+    /// Returns a table without observers.
     pub fn new(alloc: Global) -> Observers
         ensures { result ≡ record { nodes = []; queues = []; pending = [] } }
     {
@@ -91,7 +91,7 @@ impl Observers {
         }
     }
 
-    /// Makes an observer, with nothing to observe yet.
+    /// Makes an observer that observes nothing yet.
     pub fn make(&mut self) -> Result<ObserverId, AllocError>
         requires room { length self.old.queues < 4294967295 }
         ensures number { IfOk result (λ id. id ≡ length self.old.queues) }
@@ -104,23 +104,21 @@ impl Observers {
         self.roster.make(self.alloc)
     }
 
-    /// A law: what observers keep at all times.
-    ///
-    /// After a call that was refused too.
+    /// States a law: what holds of observers at all times, even after a refused call.
     pub fn sound(&self)
         ensures { IsSound self.now }
     {
         let _ = &self.registrations;
     }
 
-    /// How many observers were made, with those that were released.
+    /// Returns how many observers were made, including released ones.
     pub fn made(&self) -> usize
         ensures { result ≡ length self.now.queues }
     {
         self.roster.made()
     }
 
-    /// How many observers there are, without those that were released, in constant time.
+    /// Returns the number of live observers, in constant time.
     pub fn count(&self) -> usize
         ensures count { result ≡ count_by is_some self.now.queues }
         ensures watched { Answers (λ x. count_by is_some x.places) self.now result }
@@ -128,7 +126,7 @@ impl Observers {
         self.roster.count()
     }
 
-    /// How many registrations there are, the transient ones with them, in constant time. Those that are equal in every field are one.
+    /// Returns the number of registrations, including transient ones, in constant time. Those that are equal in every field count once.
     pub fn registrations(&self) -> usize
         ensures watched { Answers (λ x. length (once x.registrations)) self.now result }
         ensures own { result ≡ registrations_in self.now }
@@ -136,14 +134,14 @@ impl Observers {
         self.registrations.len()
     }
 
-    /// Whether there is such an observer: it was made, and not released.
+    /// Returns whether a number is that of a live observer.
     pub fn holds(&self, observer: ObserverId) -> bool
         ensures { result ≡ is_some (queue_in self.now observer) }
     {
         self.roster.holds(observer)
     }
 
-    /// Whether nothing is observed.
+    /// Returns whether nothing is observed.
     pub fn is_idle(&self) -> bool
         ensures idle { (x : Observing) → Watches self.now x → result ≡ true → x.registrations ≡ [] }
         ensures observing { (x : Observing) → Watches self.now x → x.registrations ≡ [] →
@@ -153,16 +151,16 @@ impl Observers {
         self.registrations.is_empty()
     }
 
-    /// The observer at an index of the pending list.
+    /// Returns the observer at an index of the pending list.
     pub fn pending(&self, index: usize) -> Option<ObserverId>
         ensures { result ≡ slice_get self.now.pending index }
     {
         self.pending.get_index(index).copied()
     }
 
-    /// Registers an observer on a node ("observe"): in place of its registration there, or as a new one.
+    /// Registers an observer at a node, or replaces its registration there ("observe").
     ///
-    /// Where a filter has more than a few names, it takes memory for a set of them too, so that a mutation asks for a name in constant time.
+    /// A filter with more than a few names takes memory for a set of them too, so that a mutation looks a name up in constant time.
     pub fn observe(
         &mut self,
         observer: ObserverId,
@@ -180,7 +178,7 @@ impl Observers {
         self.register(observer, node, shared)
     }
 
-    // The same, with options that its transient registrations will share.
+    // Does so with options that its transient registrations will share.
     fn register(
         &mut self,
         observer: ObserverId,
@@ -222,7 +220,7 @@ impl Observers {
         }
     }
 
-    /// Ends all that the observer observes, and empties its queue ("disconnect").
+    /// Ends all registrations of an observer, and empties its queue ("disconnect").
     pub fn disconnect(&mut self, observer: ObserverId)
         requires held { IsSome (queue_in self.old observer) }
         ensures ended { Steps (disconnected observer) self.old self.new }
@@ -235,7 +233,7 @@ impl Observers {
         let _ = kept.queue.take(self.alloc);
     }
 
-    /// Lets an observer go: ends all that it observes, and leaves nothing of it but its number, which is not given out again.
+    /// Releases an observer: ends all its registrations and frees its state. Its number is not reused.
     pub fn release(&mut self, observer: ObserverId)
         requires held { IsSome (queue_in self.old observer) }
         ensures released { Steps (released_observer observer) self.old self.new }
@@ -251,7 +249,7 @@ impl Observers {
         self.roster.release(observer);
     }
 
-    /// Takes the records of an observer out of its queue ("takeRecords"). It stays pending where it is.
+    /// Takes the records of an observer from its queue ("takeRecords"). It keeps its place in the pending list.
     pub fn take(&mut self, observer: ObserverId) -> Vec<Record>
         requires held { IsSome (queue_in self.old observer) }
         ensures records { Answers (queue_of observer) self.old result.items }
@@ -267,11 +265,10 @@ impl Observers {
         take_from(&mut self.roster, observer, self.alloc)
     }
 
-    /// Leaves transient registrations on a node that is taken from its parent, of those with subtree on the parent's inclusive
-    /// ancestors ("remove").
+    /// Adds transient registrations to a node that is removed from its parent, for those with subtree at the parent's inclusive ancestors ("remove").
     ///
-    /// One that would be equal to another on the node is not made. Where none of those has subtree nothing is noted. After an error some of them may be missing,
-    /// but where none of those ancestors is named nothing has changed.
+    /// None is added that equals another of the node. After an error some may be missing; if no observer is registered at those ancestors, nothing
+    /// has changed.
     pub fn transients<X>(
         &mut self,
         tree: &Tree<X>,
@@ -301,10 +298,10 @@ impl Observers {
         )
     }
 
-    /// Queues a record of a mutation for each observer that it interests ("queue a mutation record").
+    /// Queues a record of a mutation for each interested observer ("queue a mutation record").
     ///
-    /// Call it before the tree changes further: the ancestors of the target are those that stand now. After an error some observers may have their record
-    /// and others not, but where none of those ancestors is named nothing has changed.
+    /// Call it before the tree changes further, since it looks at the target's present ancestors. After an error some observers may have their record
+    /// and others not; if no observer is registered at those ancestors, nothing has changed.
     pub fn queue<X>(&mut self, tree: &Tree<X>, mutation: &Mutation<'_>) -> Result<(), AllocError>
         requires { HasNode tree.now.forest mutation.now.target }
         ensures queued { OnOk result ((x : Observing) → Watches self.old x →
@@ -335,11 +332,11 @@ impl Observers {
         )
     }
 
-    /// Leaves transient registrations on a node that was taken from its parent, and then queues a record of that for each observer that it interests:
-    /// what `transients` and then `queue` do, with one climb from the parent, which is the mutation's target.
+    /// Adds transient registrations to a node that was removed from its parent, and then queues a record for each interested observer: `transients`
+    /// and then `queue`, with one climb from the parent, which is the mutation's target.
     ///
-    /// Call it once the node has left its parent. After an error some of the transient registrations may be missing, or some observers may have their
-    /// record and others not, but where none of the parent's inclusive ancestors is named nothing has changed.
+    /// Call it after the removal. After an error some transient registrations or records may be missing; if no observer is registered at the parent's
+    /// inclusive ancestors, nothing has changed.
     pub fn removed<X>(
         &mut self,
         tree: &Tree<X>,
@@ -383,9 +380,9 @@ impl Observers {
         )
     }
 
-    /// Tells the pending observers their records, and ends every transient registration ("notify mutation observers").
+    /// Returns the records of the pending observers, and ends every transient registration ("notify mutation observers").
     ///
-    /// What waits for an observer that was taken from the pending ones and not told since waits on. After an error nothing has changed.
+    /// Records of an observer that was taken from the pending list and not notified since go on waiting. After an error nothing has changed.
     pub fn notify(&mut self) -> Result<Vec<(ObserverId, Vec<Record>)>, AllocError>
         ensures told { IfOk result (λ all. Answers told self.old (told_of all.items)) }
         ensures after { OnOk result (Steps after_notify self.old self.new) }
@@ -405,10 +402,10 @@ impl Observers {
         Ok(told)
     }
 
-    /// Takes the pending observers, the first step of "notify mutation observers": it answers them in their order, and nobody is pending any more.
-    /// Their records wait on, and all registrations stay.
+    /// Takes the pending observers, the first step of "notify mutation observers": returns them in order, and empties the pending list. Their records
+    /// go on waiting, and all registrations stay.
     ///
-    /// Give each of them to `tell` in this order. After an error nothing has changed.
+    /// Pass each of them to `tell` in this order. After an error nothing has changed.
     pub fn take_pending(&mut self) -> Result<Vec<ObserverId>, AllocError>
         ensures pending { IfOk result (λ taken. taken.items ≡ self.old.pending) }
         ensures taken { OnOk result (Steps pending_taken self.old self.new) }
@@ -422,8 +419,8 @@ impl Observers {
         Ok(taken)
     }
 
-    /// Tells one observer, the second step of "notify mutation observers": takes its records out of its queue, and ends its transient registrations.
-    /// It stays pending where it is.
+    /// Notifies one observer, the second step of "notify mutation observers": takes its records from its queue, and ends its transient registrations.
+    /// It keeps its place in the pending list.
     pub fn tell(&mut self, observer: ObserverId) -> Vec<Record>
         requires held { IsSome (queue_in self.old observer) }
         ensures records { Answers (queue_of observer) self.old result.items }
@@ -445,11 +442,10 @@ impl Observers {
         kept.queue.take(self.alloc)
     }
 
-    /// Puts the nodes that waiting records name where `refers` finds them without going through the records. It takes no memory, and what is observed stays
-    /// as it is.
+    /// Updates the sets of nodes in waiting records, which `refers` uses. Takes no memory, and changes no value.
     ///
-    /// A record is queued without that, since most are taken before anyone asks. It costs one look at each observer that is pending, or was taken and not told, and as much as the records name
-    /// that came since the last call: so call it before `refers` where it may be asked many times while the same records wait.
+    /// Queues postpone this, since most records are taken before a query. It costs one look at each observer that is pending, or was taken and not
+    /// notified, and one step for each node in records queued since the last call. Call it before a series of `refers`.
     pub fn catch_up(&mut self)
         ensures { self.new ≡ self.old }
     {
@@ -457,11 +453,10 @@ impl Observers {
         catch_up_each(&mut self.roster, &self.untold);
     }
 
-    /// Whether a registration, or a record that waits, names a node inside another. It takes no memory.
+    /// Returns whether a registration or a waiting record refers to a node inside a subtree. Takes no memory.
     ///
-    /// It walks the nodes inside, and asks of each whether a registration stands on it: so does one on the source of each transient one. Where climbs from
-    /// the nodes with registrations take fewer steps, it asks these: walk and climbs are counted in step, as `Tree::steps_inside` says. It asks each queue
-    /// of an observer that is pending, or was taken and not told, in the same way, by the nodes that its records name, and climbs from each node of the records that came since `catch_up`.
+    /// Walks the subtree and looks each node up, or climbs from the nodes with registrations if that takes fewer steps. Does the same for each queue
+    /// of an observer that is pending, or was taken and not notified, and climbs from each node in records queued since `catch_up`.
     pub fn refers<X>(&self, tree: &Tree<X>, top: NodeId) -> bool
         requires { HasNode tree.now.forest top }
         ensures observed { Answers

@@ -1,4 +1,4 @@
-//! The options of a registration, as they are given and as they are settled (DOM Standard, "Interface MutationObserver").
+//! The options of a registration, as given and as resolved (DOM Standard, "Interface MutationObserver").
 
 ghost use Rattle.std.specs.Prelude.{◌≡◌, IfOk, string_bytes, bytes_eq, map};
 ghost use Rattle.std.specs.List.{list_any};
@@ -8,7 +8,7 @@ use dom_model::DomError;
 use std::alloc::{AllocError, Global};
 use std::marker::Model;
 
-/// The members of `MutationObserverInit`, each where it is given.
+/// The members of `MutationObserverInit`; an absent one is none.
 #[derive(Debug, Drop)]
 pub struct RawOptions {
     pub child_list: Option<bool>,
@@ -37,7 +37,7 @@ impl Model for RawOptions {
     } };
 }
 
-/// The options of a registration once they are settled.
+/// The resolved options of a registration.
 #[derive(Debug, Drop)]
 pub struct Options {
     pub child_list: bool,
@@ -66,7 +66,7 @@ impl Model for Options {
     } };
 }
 
-/// The options of a registration from those that are given ("observe", the steps ahead of the registration).
+/// Returns the resolved options, or the refusal ("observe", the steps before the registration).
 pub fn settle(given: RawOptions) -> Result<Options, DomError>
     ensures { result ≡ settled given }
 {
@@ -97,7 +97,7 @@ pub fn settle(given: RawOptions) -> Result<Options, DomError>
     Ok(options)
 }
 
-// Copies of names, in memory of their own.
+// Copies names.
 fn copied(alloc: Global, names: &[String]) -> Result<Vec<String>, AllocError>
     ensures { IfOk result (λ copy. map string_bytes copy.items ≡ map string_bytes names.now) }
 {
@@ -108,7 +108,7 @@ fn copied(alloc: Global, names: &[String]) -> Result<Vec<String>, AllocError>
     Ok(copy)
 }
 
-// Whether the name is one of the names.
+// Returns whether the name is one of the names.
 fn is_one_of(name: &str, names: &[String]) -> bool
     ensures { result ≡ list_any (λ other. bytes_eq name.now (string_bytes other)) names.now }
 {
@@ -118,7 +118,7 @@ fn is_one_of(name: &str, names: &[String]) -> bool
 impl Options {
     ghost use Rattle.dom_observe.specs.Names.{text_of};
 
-    /// A copy, in memory of its own.
+    /// Returns a copy.
     pub fn try_clone(&self, alloc: Global) -> Result<Options, AllocError>
         ensures { IfOk result (λ copy. copy ≡ self.now) }
     {
@@ -137,7 +137,7 @@ impl Options {
         })
     }
 
-    // Whether an attribute of that name passes the filter. It goes through the names.
+    // Returns whether an attribute of a name passes the filter, by a scan of its names.
     pub(crate) fn passes(&self, name: Option<&str>) -> bool
         ensures { result ≡ name_passes self.now.attribute_filter (text_of name.entry) }
     {

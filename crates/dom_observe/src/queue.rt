@@ -1,4 +1,4 @@
-//! The records that wait for an observer, and the nodes that they name.
+//! The records that wait for an observer, and the set of nodes in them.
 
 ghost use Rattle.std.specs.Prelude.{◌≡◌, ℕ, ◌+◌, ◌<◌, ◌≤◌, ◌==◌, ◌||◌, [], ◌∷◌, ◌++◌, length, nat_eq, flat_map, OnOk, OnErr};
 ghost use Rattle.std.specs.List.{list_any};
@@ -14,18 +14,18 @@ use std::alloc::{AllocError, Global};
 use std::marker::Model;
 use std::mem;
 
-// Room for so many numbers is kept for the records that come after those that were taken.
+// How much room of the set is kept after the records are taken.
 const ROOM: usize = 8192;
 
-// The records of an observer, in the order in which they came.
+// The records of an observer, in order.
 #[derive(Drop)]
 pub struct Queue {
     records: Vec<Record>,
-    // the numbers of the nodes that the first records name
+    // the numbers of the nodes in the first records
     named: IndexSet<u32>,
     // how many records these are
     caught_up: usize,
-    // the room that is kept in the set for the nodes that the other records name
+    // room reserved in the set for the nodes in the other records
     owed: usize,
 }
 
@@ -43,7 +43,7 @@ impl Model for Queue {
 }
 
 impl Queue {
-    // No records. It takes no memory.
+    // Returns an empty queue. It takes no memory.
     pub fn new(alloc: Global) -> Queue
         ensures { result ≡ [] }
     {
@@ -55,7 +55,7 @@ impl Queue {
         }
     }
 
-    // Puts a record last. There is room for the numbers of its nodes then, which `catch_up` names.
+    // Appends a record, and reserves room for its nodes in the set, to which `catch_up` adds them.
     pub fn push(&mut self, told: Record) -> Result<(), AllocError>
         ensures ok { OnOk result (self.new ≡ self.old ++ told ∷ []) }
         ensures err { OnErr result (self.new ≡ self.old) }
@@ -68,7 +68,7 @@ impl Queue {
         Ok(())
     }
 
-    // Names the nodes of the records that came since it was last called. It takes no memory: there is room for them.
+    // Adds the nodes in records queued since its last call to the set. It takes no memory: room is reserved.
     pub fn catch_up(&mut self)
         ensures { self.new ≡ self.old }
     {
@@ -77,9 +77,9 @@ impl Queue {
         self.owed = 0;
     }
 
-    // Takes the records out. It takes no memory, and keeps room for the numbers of some nodes.
+    // Takes the records. It takes no memory, and keeps some room of the set.
     //
-    // To empty the set costs in proportion to its room: it is emptied only where a good part of that was used, and left as it is where no node was named.
+    // Clearing the set costs in proportion to its room, so it is cleared only if a good part of that was used.
     pub fn take(&mut self, alloc: Global) -> Vec<Record>
         ensures records { result.items ≡ self.old }
         ensures emptied { self.new ≡ [] }
@@ -96,9 +96,9 @@ impl Queue {
         mem::replace(&mut self.records, Vec::new(alloc))
     }
 
-    // Whether a record names a node inside another.
+    // Returns whether a record refers to a node inside a subtree.
     //
-    // It asks the set for the nodes that are named there, and climbs from each node of the records that came since.
+    // Looks nodes up in the set, and climbs from each node in records queued since it was updated.
     pub fn names_inside<X>(&self, tree: &Tree<X>, top: NodeId) -> bool
         requires { HasNode tree.now.forest top }
         ensures { result ≡ list_any (λ m. among m (inclusive_descendants tree.now.forest top))
@@ -109,22 +109,22 @@ impl Queue {
     }
 }
 
-// The node whose number is in a place of the set, as long as there is one.
+// Returns the node at an index of the set.
 fn node_at(named: &IndexSet<u32>, index: usize) -> Option<NodeId> {
     let number = named.get_index(index)?;
     Some(NodeId::new(*number))
 }
 
-// Whether a node has its number in the set.
+// Returns whether a node is in the set.
 fn is_named(named: &IndexSet<u32>, node: NodeId) -> bool
     ensures { result ≡ among node named.now.keys }
 {
     named.contains(&node.number())
 }
 
-// Whether a node inside another has its number in the set.
+// Returns whether a node inside a subtree is in the set.
 //
-// It walks the nodes inside, or climbs from each node of the set where that takes fewer steps.
+// Walks the subtree, or climbs from each node of the set if that takes fewer steps.
 fn is_named_inside<X>(tree: &Tree<X>, top: NodeId, named: &IndexSet<u32>) -> bool
     requires { HasNode tree.now.forest top }
     ensures { result ≡ list_any (λ m. among m (inclusive_descendants tree.now.forest top))
@@ -135,7 +135,7 @@ fn is_named_inside<X>(tree: &Tree<X>, top: NodeId, named: &IndexSet<u32>) -> boo
         .unwrap_or_else(|| has_name_inside(tree, top, named))
 }
 
-// The same. It climbs from each node of the set.
+// Does so by climbing from each node of the set.
 fn has_name_inside<X>(tree: &Tree<X>, top: NodeId, named: &IndexSet<u32>) -> bool
     ensures { result ≡ list_any (λ m. among m (inclusive_descendants tree.now.forest top))
         named.now.keys }
@@ -145,7 +145,7 @@ fn has_name_inside<X>(tree: &Tree<X>, top: NodeId, named: &IndexSet<u32>) -> boo
         .any(|number| tree.is_inside(top, NodeId::new(*number)))
 }
 
-// Whether one of these nodes is inside another.
+// Returns whether one of these nodes is inside a subtree.
 fn is_any_inside<X>(tree: &Tree<X>, top: NodeId, nodes: &[NodeId]) -> bool
     ensures { result ≡ list_any (λ m. among m (inclusive_descendants tree.now.forest top))
         nodes.now }
@@ -153,7 +153,7 @@ fn is_any_inside<X>(tree: &Tree<X>, top: NodeId, nodes: &[NodeId]) -> bool
     nodes.iter().any(|node| tree.is_inside(top, *node))
 }
 
-// Whether a node that may be missing is inside another.
+// Returns whether an optional node is inside a subtree.
 fn is_some_inside<X>(tree: &Tree<X>, top: NodeId, node: Option<NodeId>) -> bool
     ensures { result ≡ list_any (λ m. among m (inclusive_descendants tree.now.forest top))
         (if_any node) }
@@ -164,7 +164,7 @@ fn is_some_inside<X>(tree: &Tree<X>, top: NodeId, node: Option<NodeId>) -> bool
     }
 }
 
-// Whether a node that a record names is inside another.
+// Returns whether a node in a record is inside a subtree.
 fn has_node_inside<X>(tree: &Tree<X>, top: NodeId, told: &Record) -> bool
     ensures { result ≡ list_any (λ m. among m (inclusive_descendants tree.now.forest top))
         (nodes_of_record told.now) }
@@ -176,7 +176,7 @@ fn has_node_inside<X>(tree: &Tree<X>, top: NodeId, told: &Record) -> bool
         || is_some_inside(tree, top, told.next)
 }
 
-// The same of the nodes that some records name.
+// Returns whether a node in some records is inside a subtree.
 fn is_told_inside<X>(tree: &Tree<X>, top: NodeId, records: &[Record]) -> bool
     ensures { result ≡ list_any (λ r. list_any (λ m.
         among m (inclusive_descendants tree.now.forest top)) (nodes_of_record r)) records.now }
@@ -184,14 +184,14 @@ fn is_told_inside<X>(tree: &Tree<X>, top: NodeId, records: &[Record]) -> bool
     records.iter().any(|told| has_node_inside(tree, top, told))
 }
 
-// Room for the numbers of the nodes that a record names.
+// Reserves room for the nodes in a record.
 fn room_for(told: &Record) -> usize
     ensures { length (nodes_of_record told.now) ≤ result }
 {
     told.added.as_slice().len() + told.removed.as_slice().len() + 3
 }
 
-// Puts a node among those that are named, for which there is room.
+// Adds a node to the set, within reserved room.
 fn name(named: &mut IndexSet<u32>, node: NodeId)
     requires { 0 < spare named.old }
     ensures named { (n : ℕ) → contains nat_eq named.new n
@@ -201,7 +201,7 @@ fn name(named: &mut IndexSet<u32>, node: NodeId)
     named.insert(node.number()).unwrap();
 }
 
-// The same of a node that may be missing.
+// Adds an optional node to the set.
 fn name_any(named: &mut IndexSet<u32>, node: Option<NodeId>)
     requires { length (if_any node) ≤ spare named.old }
     ensures named { (n : ℕ) → contains nat_eq named.new n
@@ -213,7 +213,7 @@ fn name_any(named: &mut IndexSet<u32>, node: Option<NodeId>)
     }
 }
 
-// The same of several nodes.
+// Adds several nodes to the set.
 fn name_all(named: &mut IndexSet<u32>, nodes: &[NodeId])
     requires { length nodes.now ≤ spare named.old }
     ensures named { (n : ℕ) → contains nat_eq named.new n
@@ -225,7 +225,7 @@ fn name_all(named: &mut IndexSet<u32>, nodes: &[NodeId])
     }
 }
 
-// The same of the nodes of a record.
+// Adds the nodes in a record to the set.
 fn name_nodes_of(named: &mut IndexSet<u32>, told: &Record)
     requires { length (nodes_of_record told.now) ≤ spare named.old }
     ensures named { (n : ℕ) → contains nat_eq named.new n
@@ -239,7 +239,7 @@ fn name_nodes_of(named: &mut IndexSet<u32>, told: &Record)
     name_any(named, told.next);
 }
 
-// The same of the nodes of several records.
+// Adds the nodes in several records to the set.
 fn name_each(named: &mut IndexSet<u32>, records: &[Record])
     requires { length (flat_map nodes_of_record records.now) ≤ spare named.old }
     ensures { (n : ℕ) → contains nat_eq named.new n

@@ -10,7 +10,7 @@ use crate::roster::Roster;
 use indexmap::IndexSet;
 use std::alloc::Global;
 
-// Takes the records out of an observer's queue.
+// Takes the records from an observer's queue.
 pub(crate) fn take_from(roster: &mut Roster, observer: ObserverId, alloc: Global) -> Vec<Record>
     requires { is_there roster.old observer ≡ true }
     ensures records { result.items ≡ records_of roster.old observer }
@@ -21,7 +21,7 @@ pub(crate) fn take_from(roster: &mut Roster, observer: ObserverId, alloc: Global
     kept.queue.take(alloc)
 }
 
-// Catches up in the queue of each of some observers. It takes no memory.
+// Updates the sets of nodes of some observers' queues. It takes no memory.
 pub(crate) fn catch_up_each(roster: &mut Roster, observers: &IndexSet<ObserverId>)
     requires { AllThere (is_there roster.old) observers.now.keys }
     ensures { roster.new ≡ roster.old }

@@ -1,4 +1,4 @@
-//! Mutations, and the records that observers get of them (DOM Standard, "Interface MutationRecord").
+//! Mutations, and the records that observers receive (DOM Standard, "Interface MutationRecord").
 
 ghost use Rattle.std.specs.Prelude.{◌≡◌, IfOk, None, if◌then◌else◌};
 ghost use Rattle.dom_model.specs.MutationObservers.Records.{record_with};
@@ -11,7 +11,7 @@ use dom_units::Units;
 use std::alloc::{AllocError, Global};
 use std::marker::Model;
 
-/// What an observer is told of a mutation; `what` is the record's type.
+/// A record of a mutation; `what` is its type.
 #[derive(Debug, Drop)]
 pub struct Record {
     pub what: RecordType,
@@ -44,8 +44,8 @@ impl Model for Record {
 
 /// A change of the tree; `what` is the type of its records.
 ///
-/// Its lists and texts are lent: they are copied into the records of those whom it interests, and only for them.
-/// A contract sees it with no registrations: those that stand are found when it is queued.
+/// Borrows its lists and texts: they are copied into records, and only for interested observers. In contracts it has no registrations: those are
+/// looked up when it is queued.
 #[derive(Debug, Drop)]
 pub struct Mutation<'a> {
     pub what: RecordType,
@@ -78,7 +78,7 @@ impl<'a> Model for Mutation<'a> {
     } };
 }
 
-// A copy of a name.
+// Copies a name.
 fn copied_name(alloc: Global, name: Option<&str>) -> Result<Option<String>, AllocError>
     ensures { IfOk result (λ copy. name_of copy ≡ text_of name.entry) }
 {
@@ -88,7 +88,7 @@ fn copied_name(alloc: Global, name: Option<&str>) -> Result<Option<String>, Allo
     }
 }
 
-// A copy of a value, where it is asked for.
+// Copies a value, if it is asked for.
 fn copied_value(
     alloc: Global,
     value: Option<&[u16]>,
@@ -106,7 +106,7 @@ fn copied_value(
 }
 
 impl Mutation<'_> {
-    // A record of it, in memory of its own; with the old value where it is asked for.
+    // Returns a record of it, with the old value if that is asked for.
     #[inline(always)]
     pub(crate) fn record(&self, alloc: Global, with_old_value: bool) -> Result<Record, AllocError>
         ensures { IfOk result (λ made. made ≡ record_with self.now (if with_old_value
@@ -128,7 +128,7 @@ impl Mutation<'_> {
         })
     }
 
-    // What is asked of the registrations above its target.
+    // Returns the query for registrations at its target's ancestors.
     pub(crate) fn question(&self) -> Question<'_>
         ensures what { result.what ≡ self.now.type }
         ensures target { result.target ≡ self.now.target }

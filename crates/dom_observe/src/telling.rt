@@ -1,4 +1,4 @@
-//! Who is told of a mutation, and with which record (DOM Standard, "queue a mutation record").
+//! Which observers a mutation interests, and their records (DOM Standard, "queue a mutation record").
 
 ghost use Rattle.std.specs.Prelude.{◌≡◌, ℕ, Bool, false, ◌==◌, [], ◌∷◌, ◌++◌, ◌||◌, true, if◌then◌else◌, map, unwrap_or, nat_eq, None, Some, IfSome, IfOk, OnOk, OnErr};
 ghost use Rattle.std.specs.List.{AllByRecursion, list_any};
@@ -23,7 +23,7 @@ use crate::roster::Roster;
 use indexmap::{IndexMap, IndexSet};
 use std::alloc::{AllocError, Global};
 
-// The observer that a registration under a key makes interested, and whether it asks for the old value.
+// Returns the observer that a registration under a key makes interested, and whether it asks for the old value.
 #[inline(always)]
 fn listener_at(
     registrations: &Registrations,
@@ -42,7 +42,7 @@ fn listener_at(
     }
 }
 
-// Notes an interested observer, once; it asks for the old value where one of its registrations does.
+// Notes an interested observer once. It asks for the old value if one of its registrations does.
 fn note(heard: &mut IndexMap<u32, bool>, observer: ObserverId, asks: bool) -> Result<(), AllocError>
     ensures ok { OnOk result ((p : ℕ) → get nat_eq heard.new p
         ≡ (if observer == p then Some (unwrap_or (get nat_eq heard.old p) false || asks)
@@ -57,7 +57,7 @@ fn note(heard: &mut IndexMap<u32, bool>, observer: ObserverId, asks: bool) -> Re
     Ok(())
 }
 
-// A listener, with one more; none where that is another observer.
+// Joins two interested observers; returns none if they differ.
 fn joined(
     only: Option<(ObserverId, bool)>,
     listener: (ObserverId, bool),
@@ -72,7 +72,7 @@ fn joined(
     }
 }
 
-// The observer that the registrations under the keys make interested, and whether it asks for the old value; none where there are several, or there is none.
+// Returns the only interested observer by the registrations under the keys, and whether it asks for the old value; none if there are several or none.
 fn only_listener(
     registrations: &Registrations,
     standing: &[usize],
@@ -93,7 +93,7 @@ fn only_listener(
     only
 }
 
-// Puts an observer on the pending list, where it is not there yet.
+// Adds an observer to the pending list, unless it is in it.
 #[inline(always)]
 pub(crate) fn pend(
     pending: &mut IndexSet<ObserverId>,
@@ -111,7 +111,7 @@ pub(crate) fn pend(
     Ok(())
 }
 
-// The observers that the registrations under the keys make interested, which become pending in their order.
+// Returns the interested observers by the registrations under the keys, and adds them to the pending list in order.
 fn listen(
     registrations: &Registrations,
     standing: &[usize],
@@ -144,7 +144,7 @@ fn listen(
     Ok(heard)
 }
 
-// Puts a record last in a queue.
+// Appends a record to a queue.
 #[inline(always)]
 fn deliver(roster: &mut Roster, observer: u32, told: Record) -> Result<(), AllocError>
     requires { is_there roster.old observer ≡ true }
@@ -158,7 +158,7 @@ fn deliver(roster: &mut Roster, observer: u32, told: Record) -> Result<(), Alloc
     kept.queue.push(told)
 }
 
-// Puts a record of the mutation last in the queue of a listener, who becomes pending.
+// Appends a record of the mutation to an observer's queue, and adds the observer to the pending list.
 fn tell_one(
     roster: &mut Roster,
     pending: &mut IndexSet<ObserverId>,
@@ -188,7 +188,7 @@ fn tell_one(
     deliver(roster, observer.number(), told)
 }
 
-// Puts a record of the mutation last in the queue of each listener.
+// Appends a record of the mutation to the queue of each interested observer.
 fn tell_each(
     roster: &mut Roster,
     heard: &IndexMap<u32, bool>,
@@ -216,9 +216,10 @@ fn tell_each(
     Ok(())
 }
 
-// Puts a record of the mutation last in the queue of each observer that the registrations under the keys make interested. They become pending in their order.
+// Appends a record of the mutation to the queue of each interested observer by the registrations under the keys, and adds these observers to the
+// pending list in order.
 //
-// One observer alone, as in most changes, is found by going through them, with no map of who listens.
+// A single interested observer, the usual case, is found by a scan without a map.
 pub(crate) fn tell(
     registrations: &Registrations,
     standing: &[usize],

@@ -33,8 +33,20 @@ pub enum Refusal {
     Mistake(String),
 }
 
-/// The version that `--version` tells.
-const VERSION: &str = "0.1.0";
+/// The version that `--version` tells, and the identity of the kit that proves the program.
+const VERSION: &str = "0.1.0 (rattle-kit-13f logic dac8208d650f15bf)";
+
+/// What help says below the options: statuses, and an example.
+const AFTER: &str = "\
+Exit status: 0 at the end of the input, 1 out of memory, 2 for a mistake in the options,
+3 for a failed read or write, 141 if nobody reads the output any longer.
+
+Example:
+  $ printf '[\"createElement\",0,\"p\"]\\n[\"appendChild\",0,1]\\n' | domserve
+  {\"ok\":1}
+  {\"ok\":1}
+
+domserve(1) and its pages have the commands; domserve-explain --commands lists them.";
 
 /// The program with no options, and what it says of itself.
 fn program<'a>(alloc: Global) -> Command<'a>
@@ -44,6 +56,7 @@ fn program<'a>(alloc: Global) -> Command<'a>
         .about(
             "Keeps documents (DOM Standard): one JSON command a line in, one JSON reply a line out",
         )
+        .after_help(AFTER)
         .version(VERSION)
 }
 
@@ -53,14 +66,14 @@ fn command<'a>(alloc: Global) -> Result<Command<'a>, AllocError>
     let line = Arg::new(alloc, "line")
         .long("line")
         .value_name("BYTES")
-        .help("How many bytes a line may have")
+        .help("How many bytes a line may have, from 1 to 1073741824")
         .action(ArgAction::Set)
         .value_parser(clap::value_parser!(u64).range(1..=1073741824))
         .default_value("1048576");
     let numbers = Arg::new(alloc, "numbers")
         .long("numbers")
         .value_name("N")
-        .help("How many numbers there are of each kind of object")
+        .help("How many numbers there are of each kind of object, from 1 to 4294967295")
         .action(ArgAction::Set)
         .value_parser(clap::value_parser!(u64).range(1..=4294967295))
         .default_value("4294967295");
@@ -90,13 +103,39 @@ fn asked_of(matches: &ArgMatches<'_>) -> Asked
     Asked { numbers, line }
 }
 
+/// Returns the value that clap's text refuses, if it is one of the option in the words behind it.
+fn refused_value<'t>(text: &'t str, behind: &str) -> Option<&'t str> {
+    let (front, _) = text.rsplit_once(behind)?;
+    front.strip_prefix("error: invalid value '")
+}
+
+/// Returns the option that clap's text is about, its greatest value and the refused one, if it is about a limit.
+fn refused_limit(text: &str) -> Option<(&str, u64, &str)> {
+    if let Some(value) = refused_value(text, "' for '--line <BYTES>': ") {
+        return Some(("--line", LONGEST_LINE, value));
+    }
+    let value = refused_value(text, "' for '--numbers <N>': ")?;
+    Some(("--numbers", NUMBERS, value))
+}
+
+/// Returns the text of an error. Of a refused limit clap tells the range as Rust writes it, so this has words of its own.
+fn plain_text(alloc: Global, error: &Error) -> Result<String, AllocError> {
+    let text = error.to_string(alloc)?;
+    match refused_limit(text.as_str()) {
+        Some((option, most, value)) => format!(in alloc;
+            "error: {option} wants a whole number from 1 to {most}, not '{value}'\n\nFor more information, try '--help'.\n"
+        ),
+        None => Ok(text),
+    }
+}
+
 fn refusal_of(alloc: Global, error: &Error) -> Refusal
     ensures { IsRefusalOf (kind_of error.now) result }
 {
     if let ErrorKind::OutOfMemory = error.kind() {
         return Refusal::Memory;
     }
-    match error.to_string(alloc) {
+    match plain_text(alloc, error) {
         Ok(text) => {
             if error.use_stderr() {
                 Refusal::Mistake(text)

@@ -6,7 +6,7 @@ ghost use Rattle.dom_model.specs.RangesAndContents.Ranges.{common_ancestor};
 
 use dom_tree::{NodeId, Tree};
 
-/// The deepest inclusive ancestor of both nodes.
+/// Returns the deepest inclusive ancestor of both nodes.
 pub fn common<X>(tree: &Tree<X>, a: NodeId, b: NodeId) -> NodeId
     requires a_held { HasNode tree.now.forest a }
     requires b_held { HasNode tree.now.forest b }

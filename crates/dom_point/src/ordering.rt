@@ -10,7 +10,10 @@ use crate::point::Point;
 use dom_tree::{Meeting, NodeId, Tree};
 use std::cmp::Ordering;
 
-/// How two points of one root stand: as many steps as the nodes are deep, and as their ways lie apart where they part. A point at offset 0 of a node stands ahead of all points below that node, and no index is asked for.
+/// Returns the order of two points of one root.
+///
+/// Takes as many steps as the nodes are deep, and as the paths are apart where they part. A point at offset 0 precedes all points below its node, and
+/// needs no index.
 pub fn order<X>(tree: &Tree<X>, a: Point, b: Point) -> Ordering
     requires a_held { HasNode tree.now.forest a.node }
     requires b_held { HasNode tree.now.forest b.node }
@@ -21,8 +24,9 @@ pub fn order<X>(tree: &Tree<X>, a: Point, b: Point) -> Ordering
     order_where_met(tree, met, a, b)
 }
 
-/// How two points of one root stand. Where that asks for an index, or for which of two children comes first, and it is not found near, the
-/// indices of the siblings up to there are made known, so that it is known when it is asked for again. It takes no memory.
+/// Returns the order of two points of one root, and caches the sibling indices that it needs.
+///
+/// Takes no memory. An index is cached only if it is not found near.
 pub fn found_order<X>(tree: &mut Tree<X>, a: Point, b: Point) -> Ordering
     requires a_held { HasNode tree.old.forest a.node }
     requires b_held { HasNode tree.old.forest b.node }
@@ -41,7 +45,7 @@ pub fn found_order<X>(tree: &mut Tree<X>, a: Point, b: Point) -> Ordering
     order_where_met(tree, meeting, a, b)
 }
 
-// Finds the index of a node, so that what asks for it next has it at once.
+// Caches the index of a node for the next query.
 fn find_index<X>(tree: &mut Tree<X>, node: NodeId)
     requires { HasNode tree.old.forest node }
     ensures { tree.new ≡ tree.old }
@@ -49,7 +53,7 @@ fn find_index<X>(tree: &mut Tree<X>, node: NodeId)
     let _ = tree.found_index(node);
 }
 
-// Finds which of two children of one parent comes first, so that what asks for it next has it at once.
+// Caches which of two children of one parent comes first, for the next query.
 fn find_order<X>(tree: &mut Tree<X>, first: NodeId, second: NodeId)
     requires first_held { HasNode tree.old.forest first }
     requires second_held { HasNode tree.old.forest second }
@@ -60,7 +64,7 @@ fn find_order<X>(tree: &mut Tree<X>, first: NodeId, second: NodeId)
     let _ = tree.found_comes_before(first, second);
 }
 
-// How two points stand whose ways up meet there.
+// Returns the order of two points, given where their paths to the root meet.
 fn order_where_met<X>(tree: &Tree<X>, met: Meeting, a: Point, b: Point) -> Ordering
     requires a_held { HasNode tree.now.forest a.node }
     requires b_held { HasNode tree.now.forest b.node }
@@ -80,7 +84,7 @@ fn order_where_met<X>(tree: &Tree<X>, met: Meeting, a: Point, b: Point) -> Order
     }
 }
 
-// The order of two points that are not one, by whether the first stands ahead.
+// Returns the order of two different points, given whether the first comes first.
 fn side(is_ahead: bool) -> Ordering
     ensures { result ≡ (if is_ahead then Less else Greater) }
 {

@@ -3,7 +3,7 @@
 use dom_tree::NodeId;
 use std::marker::Model;
 
-/// A place in a tree: ahead of the child or the unit at the offset, or behind the last (DOM Standard, "Boundary points").
+/// A node and an offset: the gap ahead of the child or unit at that offset, or behind the last (DOM Standard, "Boundary points").
 #[derive(Clone, Copy, Debug, PartialEq, Eq)]
 pub struct Point {
     pub node: NodeId,

@@ -1,4 +1,4 @@
-//! What is asked of boundary points and of nodes beside them (DOM Standard, "Boundary points", "Interface Range").
+//! Queries on boundary points and on the points beside a node (DOM Standard, "Boundary points", "Interface Range").
 
 ghost use Rattle.std.specs.Prelude.{◌≡◌, ◌+◌, Some, option_map};
 ghost use Rattle.dom_model.specs.Forests.Forest.{HasNode, index_of, parent_of, root_of};
@@ -13,7 +13,7 @@ use dom_kinds::{DomError, Kind};
 use dom_tree::{Body, NodeId, Tree};
 use std::cmp::Ordering;
 
-/// Whether two nodes have one root.
+/// Returns whether two nodes have one root.
 pub fn same_root<X>(tree: &Tree<X>, a: NodeId, b: NodeId) -> bool
     requires a_held { HasNode tree.now.forest a }
     requires b_held { HasNode tree.now.forest b }
@@ -22,7 +22,7 @@ pub fn same_root<X>(tree: &Tree<X>, a: NodeId, b: NodeId) -> bool
     tree.root(a) == tree.root(b)
 }
 
-/// Whether the first of two points of one root comes before the second.
+/// Returns whether the first of two points of one root comes before the second.
 pub fn is_before<X>(tree: &Tree<X>, a: Point, b: Point) -> bool
     requires a_held { HasNode tree.now.forest a.node }
     requires b_held { HasNode tree.now.forest b.node }
@@ -35,7 +35,7 @@ pub fn is_before<X>(tree: &Tree<X>, a: Point, b: Point) -> bool
     }
 }
 
-/// Whether the first of two points of one root comes before the second. An index that this asks for is known when it is asked for again, as by [`found_order`].
+/// Returns whether the first of two points of one root comes before the second, and caches indices as [`found_order`] does.
 pub fn found_before<X>(tree: &mut Tree<X>, a: Point, b: Point) -> bool
     requires a_held { HasNode tree.old.forest a.node }
     requires b_held { HasNode tree.old.forest b.node }
@@ -46,7 +46,7 @@ pub fn found_before<X>(tree: &mut Tree<X>, a: Point, b: Point) -> bool
     found_order(tree, a, b) == Ordering::Less
 }
 
-/// The refusal of a node and an offset to be a boundary point: a doctype has none, and an offset is at most the length.
+/// Checks a boundary point: refuses a doctype, and an offset past the node's length.
 pub fn checked_point<X: Body>(tree: &Tree<X>, node: NodeId, offset: usize) -> Result<(), DomError>
     requires { HasNode tree.now.forest node }
     ensures { result ≡ refused (check_point X.length tree.now.forest
@@ -61,7 +61,7 @@ pub fn checked_point<X: Body>(tree: &Tree<X>, node: NodeId, offset: usize) -> Re
     Ok(())
 }
 
-/// The point ahead of a node in its parent; none without a parent.
+/// Returns the point before a node in its parent; none for a root.
 pub fn point_before<X>(tree: &Tree<X>, node: NodeId) -> Option<Point>
     requires { HasNode tree.now.forest node }
     ensures { result ≡ ranges.point_before tree.now.forest node }
@@ -73,7 +73,7 @@ pub fn point_before<X>(tree: &Tree<X>, node: NodeId) -> Option<Point>
     })
 }
 
-/// The point behind a node in its parent; none without a parent.
+/// Returns the point after a node in its parent; none for a root.
 pub fn point_after<X>(tree: &Tree<X>, node: NodeId) -> Option<Point>
     requires { HasNode tree.now.forest node }
     ensures { result ≡ ranges.point_after tree.now.forest node }
@@ -82,7 +82,7 @@ pub fn point_after<X>(tree: &Tree<X>, node: NodeId) -> Option<Point>
     Some(after)
 }
 
-/// The points ahead of a node and behind it in its parent; none without a parent.
+/// Returns the points before and after a node in its parent; none for a root.
 pub fn points_around<X>(tree: &Tree<X>, node: NodeId) -> Option<(Point, Point)>
     requires { HasNode tree.now.forest node }
     ensures { option_map (λ ends. record { start = ends.0; end = ends.1 }) result
@@ -92,7 +92,7 @@ pub fn points_around<X>(tree: &Tree<X>, node: NodeId) -> Option<(Point, Point)>
     Some(around_child(tree, parent, node, tree.index(node)))
 }
 
-/// The points ahead of a node and behind it in its parent; none without a parent. An index that this asks for is known when it is asked for again, as by [`Tree::found_index`].
+/// Returns the points before and after a node in its parent, and caches its index as [`Tree::found_index`] does; none for a root.
 pub fn found_around<X>(tree: &mut Tree<X>, node: NodeId) -> Option<(Point, Point)>
     requires { HasNode tree.old.forest node }
     ensures around { option_map (λ ends. record { start = ends.0; end = ends.1 }) result
@@ -104,7 +104,7 @@ pub fn found_around<X>(tree: &mut Tree<X>, node: NodeId) -> Option<(Point, Point
     Some(around_child(tree, parent, node, index))
 }
 
-// The points ahead of a child of a parent, whose index is given, and behind it.
+// Returns the points before and after a child, given its index.
 fn around_child<X>(tree: &Tree<X>, parent: NodeId, child: NodeId, index: usize) -> (Point, Point)
     requires held { HasNode tree.now.forest child }
     requires child { parent_of tree.now.forest child ≡ Some parent }
@@ -113,7 +113,7 @@ fn around_child<X>(tree: &Tree<X>, parent: NodeId, child: NodeId, index: usize) 
     ensures behind { result.1 ≡ record { node = parent; offset = index + 1 } }
 {
     tree.sound();
-    // an index is below the count, so the offset behind the child is a number of the machine too
+    // an index is below the count, so the offset after the child fits too
     let _ = tree.count(parent);
     let before = Point {
         node: parent,

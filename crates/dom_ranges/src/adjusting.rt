@@ -1,5 +1,4 @@
-//! How changes of the tree adjust the live ranges (DOM Standard, "Live ranges"). Nothing here takes memory, and nothing is done for the
-//! ends that stand elsewhere.
+//! How changes of the tree adjust live ranges (DOM Standard, "Live ranges"). Nothing here takes memory, and ends elsewhere are not visited.
 
 ghost use Rattle.std.specs.Prelude.{◌≡◌, ◌<◌, ◌^◌, IfSome, IsSomeAnd};
 ghost use Rattle.dom_model.specs.Forests.Forest.{HasNode, parent_of, index_of, inclusive_descendants};
@@ -13,7 +12,7 @@ use dom_point::Point;
 use dom_tree::{NodeId, Tree};
 
 impl Ranges {
-    /// Nodes come in among a parent's children, `count` of them at the index `at`.
+    /// Adjusts ends for `count` nodes inserted among a parent's children at the index `at`.
     pub fn gap(&mut self, parent: NodeId, at: usize, count: usize)
         requires { OffsetsFit (after_gap parent at count) self.old.ranges }
         ensures { self.new ≡ record self.old {
@@ -24,7 +23,7 @@ impl Ranges {
         self.spliced(parent, at, 0, count);
     }
 
-    /// In the data of a node `added` units take the place of `count` at the offset `at`.
+    /// Adjusts ends for `count` units of a node's data at the offset `at` that were replaced by `added` units.
     pub fn spliced(&mut self, node: NodeId, at: usize, count: usize, added: usize)
         requires { OffsetsFit (after_splice node at count added) self.old.ranges }
         ensures { self.new ≡ record self.old {
@@ -43,7 +42,7 @@ impl Ranges {
         chains::shift(&mut self.chains, node, &shift);
     }
 
-    /// A Text, the child of the parent at the index, was split at an offset: what was beyond stands in the new Text behind it.
+    /// Adjusts ends for a Text, the parent's child at the index, that was split at an offset. The new Text follows it.
     pub fn was_split(&mut self, node: NodeId, at: usize, new: NodeId, parent: NodeId, index: usize)
         requires fit { OffsetsFit (after_split node at new parent index) self.old.ranges }
         requires new_covered { IsCovered self.old new }
@@ -65,7 +64,7 @@ impl Ranges {
         chains::shift_both(&mut self.chains, parent, node, &shift);
     }
 
-    /// A Text, the child of the parent at the index, is joined to another, which had `base` units before.
+    /// Adjusts ends for a Text, the parent's child at the index, that is merged into another, which had `base` units.
     pub fn merged(&mut self, from: NodeId, into: NodeId, base: usize, parent: NodeId, index: usize)
         requires fit { OffsetsFit (after_merge from into base parent index) self.old.ranges }
         requires into_covered { IsCovered self.old into }
@@ -90,7 +89,7 @@ impl Ranges {
         }
     }
 
-    // All ends in a node go to one point.
+    // Moves all ends in a node to one point.
     fn gather_at(&mut self, node: NodeId, to: Point)
         requires covered { IsCovered self.old to.node }
         requires fits { to.offset < 2 ^ 64 }
@@ -102,7 +101,7 @@ impl Ranges {
         chains::shift(&mut self.chains, node, &Shift::Gather { to });
     }
 
-    // The same of all ends inside a node. It asks each end.
+    // Moves all ends inside a subtree to one point. Visits each end.
     fn gather_ends<X>(&mut self, tree: &Tree<X>, top: NodeId, to: Point)
         requires covered { IsCovered self.old to.node }
         ensures { self.new ≡ record self.old {
@@ -113,7 +112,7 @@ impl Ranges {
         chains::gather(&mut self.chains, tree, top, to);
     }
 
-    // All ends inside a node go to one point. It walks so many nodes inside, and where there are more it asks each end.
+    // Moves all ends inside a subtree to one point. Walks at most `steps` nodes, and visits each end if there are more.
     fn gather<X>(&mut self, tree: &Tree<X>, top: NodeId, steps: usize, to: Point)
         requires held { HasNode tree.now.forest top }
         requires covered { IsCovered self.old to.node }
@@ -135,7 +134,7 @@ impl Ranges {
         self.gather_ends(tree, top, to);
     }
 
-    /// A node leaves its parent. It is called before the node is taken out.
+    /// Adjusts ends for a node that is about to be removed from its parent.
     pub fn removing<X>(&mut self, tree: &Tree<X>, node: NodeId)
         requires held { HasNode tree.now.forest node }
         requires parent { IsSomeAnd (parent_of tree.now.forest node) (IsCovered self.old) }

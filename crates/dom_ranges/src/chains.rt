@@ -1,4 +1,4 @@
-//! The ends of live ranges, each in the chain of those that stand in its node.
+//! The ends of live ranges, in buckets by node.
 
 ghost use Rattle.std.specs.Prelude.{◌≡◌, ℕ, ◌+◌, ◌^◌, ◌<◌, ◌≤◌, true, [], ◌∷◌, ◌++◌, length, map, slice_get, slice_set, Some};
 ghost use Rattle.std.specs.List.{list_any};
@@ -14,10 +14,10 @@ use dom_chains::{Chains, HeadsInPages};
 use dom_point::Point;
 use dom_tree::{NodeId, Tree};
 
-/// Ends by number: of each an offset in its node, which is its key.
+/// Ends by number: each has an offset, and its node as the key.
 pub(crate) type Ends = Chains<usize, HeadsInPages>;
 
-/// Where an end stands.
+/// Returns the point of an end.
 pub(crate) fn point(ends: &Ends, id: usize) -> Point
     requires { id < length ends.now.items }
     ensures { slice_get ends.now.items id ≡ Some (end_at result) }
@@ -29,7 +29,7 @@ pub(crate) fn point(ends: &Ends, id: usize) -> Point
     }
 }
 
-/// The node in which an end stands; none past the last end.
+/// Returns the node of an end; none past the last end.
 pub(crate) fn node(ends: &Ends, id: usize) -> Option<NodeId>
     ensures { result ≡ key_at ends.now.items id }
 {
@@ -37,7 +37,7 @@ pub(crate) fn node(ends: &Ends, id: usize) -> Option<NodeId>
     Some(NodeId::new(node))
 }
 
-/// Adds an end at a point. There is room for it.
+/// Adds an end at a point. Requires room.
 pub(crate) fn push_reserved(ends: &mut Ends, at: Point)
     requires room { 0 < ends.old.room }
     requires few { length ends.old.items < 2 ^ 33 }
@@ -58,7 +58,7 @@ pub(crate) fn place(ends: &mut Ends, id: usize, to: Point)
     ends.place(id, to.node.number(), to.offset);
 }
 
-/// Shifts the ends that stand in a node.
+/// Shifts the ends in a node.
 pub(crate) fn shift(ends: &mut Ends, node: NodeId, by: &Shift)
     requires { CanMove (shifted by.now) node ends.old.items ends.old.covered }
     ensures { ends.new ≡ record ends.old {
@@ -68,7 +68,7 @@ pub(crate) fn shift(ends: &mut Ends, node: NodeId, by: &Shift)
     ends.change(node.number(), by);
 }
 
-/// Shifts the ends that stand in two nodes, which may be one. No end of the first goes to the second.
+/// Shifts the ends in two nodes, which may be the same. No end of the first moves to the second.
 pub(crate) fn shift_both(ends: &mut Ends, first: NodeId, second: NodeId, by: &Shift)
     requires within { (node : ℕ) →
         CanMove (shifted by.now) node ends.old.items ends.old.covered }
@@ -84,7 +84,7 @@ pub(crate) fn shift_both(ends: &mut Ends, first: NodeId, second: NodeId, by: &Sh
     }
 }
 
-/// Whether an end stands inside a node. It asks each end.
+/// Returns whether an end is inside a subtree. Visits each end.
 pub(crate) fn refer<X>(ends: &Ends, tree: &Tree<X>, top: NodeId) -> bool
     ensures { result ≡ list_any (λ m. among m (inclusive_descendants tree.now.forest top))
         (keys_of ends.now.items) }
@@ -98,7 +98,7 @@ pub(crate) fn refer<X>(ends: &Ends, tree: &Tree<X>, top: NodeId) -> bool
     false
 }
 
-/// Moves all ends that stand inside a node to one point. It asks each end.
+/// Moves all ends inside a subtree to one point. Visits each end.
 pub(crate) fn gather<X>(ends: &mut Ends, tree: &Tree<X>, top: NodeId, to: Point)
     requires { covers ends.old.covered to.node ≡ true }
     ensures { ends.new ≡ record ends.old {

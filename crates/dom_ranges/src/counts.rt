@@ -1,4 +1,4 @@
-//! How many ends of static ranges stand in each node.
+//! How many ends of static ranges each node has.
 
 ghost use Rattle.std.specs.Prelude.{◌≡◌, ℕ, ◌+◌, ◌^◌, ◌<◌, ◌≤◌, nat_lt, [], OnOk};
 ghost use Rattle.dom_ranges.specs.StaticEnds.{count_in, with_end};
@@ -8,7 +8,7 @@ use indexmap::IndexMap;
 use std::alloc::{AllocError, Global};
 use std::marker::Model;
 
-/// For each node how many ends stand in it. Memory is taken for the nodes in which some do.
+/// The number of ends by node. Takes memory only for nodes with ends.
 #[derive(Drop)]
 pub(crate) struct EndCounts {
     by_node: IndexMap<u32, usize>,
@@ -26,7 +26,7 @@ impl Model for EndCounts {
 }
 
 impl EndCounts {
-    /// No end in any node. It takes no memory.
+    /// Returns counts without ends. It takes no memory.
     pub(crate) fn new(alloc: Global) -> EndCounts
         ensures { result.counts ≡ [] }
     {
@@ -35,7 +35,7 @@ impl EndCounts {
         }
     }
 
-    /// Makes room for so many more ends, wherever they stand.
+    /// Reserves room for more ends, in any nodes.
     pub(crate) fn reserve(&mut self, additional: usize) -> Result<(), AllocError>
         ensures room { OnOk result (additional ≤ self.new.room) }
         ensures counts { self.new.counts ≡ self.old.counts }
@@ -43,7 +43,7 @@ impl EndCounts {
         self.by_node.reserve(additional)
     }
 
-    // How many ends stand in a node.
+    // Returns the number of ends in a node.
     fn count(&self, node: NodeId) -> usize
         ensures { result ≡ count_in self.now.counts node }
     {
@@ -53,14 +53,14 @@ impl EndCounts {
         }
     }
 
-    /// Whether an end stands in a node.
+    /// Returns whether a node has an end.
     pub(crate) fn stands_in(&self, node: NodeId) -> bool
         ensures { result ≡ nat_lt 0 (count_in self.now.counts node) }
     {
         self.by_node.contains_key(&node.number())
     }
 
-    /// One more end stands in a node; there is room for it. It takes no memory.
+    /// Counts one more end in a node, within reserved room. It takes no memory.
     pub(crate) fn add(&mut self, node: NodeId)
         requires room { 0 < self.old.room }
         requires few { count_in self.old.counts node + 1 < 2 ^ 64 }
@@ -71,7 +71,7 @@ impl EndCounts {
         self.by_node.insert(node.number(), count).unwrap();
     }
 
-    /// An end that stood in a node does so no more. It takes no memory.
+    /// Counts one end less in a node. It takes no memory.
     pub(crate) fn take(&mut self, node: NodeId)
         requires { 0 < count_in self.old.counts node }
         ensures taken { (n : ℕ) → count_in self.old.counts n ≡ with_end node self.new.counts n }

@@ -1,4 +1,4 @@
-//! The numbers of live ranges.
+//! Numbers of live ranges.
 
 ghost use Rattle.std.specs.Prelude.{◌≡◌};
 
@@ -8,5 +8,5 @@ use dom_ids::Id;
 #[derive(Clone, Copy, Debug, PartialEq, Eq, Hash, Drop)]
 pub struct OfRange;
 
-/// The number by which callers name a live range: the first that is made has 0, and no number is used again.
+/// The number of a live range. The first is 0, and no number is reused.
 pub type RangeId = Id<OfRange>;

@@ -15,10 +15,10 @@ use dom_tree::{Body, NodeId, Tree};
 use std::alloc::{AllocError, Global};
 use std::marker::Model;
 
-/// The live ranges of a session (DOM Standard, "Live ranges"), with their ends found by node.
+/// The live ranges of a session (DOM Standard, "Live ranges"), with their ends stored by node.
 ///
-/// A number leads to a slot for as long as its range is live. The range in slot `s` starts at end `2 * s` and ends at the next. Where a range
-/// is released the one in the last slot comes into its slot, so each slot has a live range.
+/// A live number leads to a slot. The range in slot `s` starts at end `2 * s` and ends at the next. If a range is released, the one in the last slot
+/// moves into its slot.
 #[derive(Drop)]
 pub struct Ranges {
     pub(crate) chains: Ends,
@@ -38,7 +38,7 @@ impl Model for Ranges {
 }
 
 impl Ranges {
-    /// No ranges, and room for none. It takes no memory.
+    /// Returns a table without ranges. It takes no memory.
     pub fn new(alloc: Global) -> Ranges
         ensures { result ≡ record { ranges = []; covered = [] } }
     {
@@ -48,7 +48,7 @@ impl Ranges {
         }
     }
 
-    /// Makes room for ends in the nodes numbered below `made` that had none yet. A node that was forgotten stays forgotten.
+    /// Reserves room for ends in nodes with numbers below `made`. A forgotten node stays forgotten.
     pub fn cover(&mut self, made: u64) -> Result<(), AllocError>
         requires { made ≤ 4294967295 }
         ensures ok { OnOk result (self.new ≡ record self.old
@@ -58,14 +58,14 @@ impl Ranges {
         self.chains.cover(made)
     }
 
-    /// Whether ends may stand in a node: it was covered, and was not forgotten since.
+    /// Returns whether ends may be stored for a node: it was covered, and not forgotten since.
     pub fn is_covered(&self, node: NodeId) -> bool
         ensures { result ≡ covers self.now.covered node }
     {
         self.chains.is_covered(node.number())
     }
 
-    // Gives back what was kept for ends in a node.
+    // Frees the room for ends in a node.
     fn forget_one(&mut self, node: NodeId)
         requires { among node (live_nodes self.old) ≡ false }
         ensures { self.new ≡ record self.old { covered = slice_set self.old.covered node false } }
@@ -74,7 +74,7 @@ impl Ranges {
         self.chains.forget(node.number());
     }
 
-    /// Gives back what was kept for ends in the nodes of a tree that is about to go.
+    /// Frees the room for ends in the nodes of a tree that is about to be discarded.
     pub fn forget<X>(&mut self, tree: &Tree<X>, top: NodeId)
         requires held { HasNode tree.now.forest top }
         requires empty { list_any (λ m. among m (inclusive_descendants tree.now.forest top))
@@ -124,14 +124,14 @@ impl Ranges {
         Ok(RangeId::new(self.slots.push_reserved()))
     }
 
-    /// How many ranges were ever made.
+    /// Returns how many ranges were ever made.
     pub fn made(&self) -> u64
         ensures { result ≡ length self.now.ranges }
     {
         self.slots.made()
     }
 
-    /// How many ranges are live, in constant time: there is one slot to each, so this tells how much memory their ends take.
+    /// Returns the number of live ranges, in constant time.
     pub fn count(&self) -> usize
         ensures { result ≡ count_by is_some self.now.ranges }
     {
@@ -139,7 +139,7 @@ impl Ranges {
         self.slots.count()
     }
 
-    /// Whether there is such a range, and it was not released.
+    /// Returns whether a number is that of a live range.
     pub fn holds(&self, r: RangeId) -> bool
         ensures { result ≡ is_some (range_in self.now r) }
     {
@@ -147,7 +147,7 @@ impl Ranges {
         self.slots.slot(r.number()).is_some()
     }
 
-    /// Where a range starts, and where it ends.
+    /// Returns the start and the end of a range.
     pub fn ends(&self, r: RangeId) -> (Point, Point)
         requires { IsSome (range_in self.now r) }
         ensures ends { range_in self.now r ≡ Some (record { start = result.0; end = result.1 }) }
@@ -163,7 +163,7 @@ impl Ranges {
         (start, end)
     }
 
-    /// Releases a range: it is adjusted no more, and its number is not used again.
+    /// Releases a range. Its number is not reused.
     pub fn release(&mut self, r: RangeId)
         requires { IsSome (range_in self.old r) }
         ensures { self.new ≡ without_range r self.old }
@@ -191,7 +191,7 @@ impl Ranges {
         chains::place(&mut self.chains, first + 1, end);
     }
 
-    /// Whether an end of a live range stands in a node.
+    /// Returns whether a node has an end of a live range.
     pub fn stands_in(&self, node: NodeId) -> bool
         ensures { result ≡ among node (live_nodes self.now) }
     {
@@ -199,10 +199,10 @@ impl Ranges {
         self.chains.has(node.number())
     }
 
-    /// A law: it does nothing, and its contract tells what holds of all live ranges at any time.
+    /// States a law, and does nothing: its contract holds for all live ranges at any time.
     ///
-    /// The ends that stand in a node are its chain, each of them once, and a node that is not covered has no chain. So where
-    /// [`Ranges::stands_in`] answers yes, [`Ranges::is_covered`] does too. And each live range has two ends in a table of fewer than 2 ^ 33.
+    /// The ends in a node are its bucket, each once, and a node that is not covered has none. So if [`Ranges::stands_in`] returns true,
+    /// [`Ranges::is_covered`] does too. Each live range has two ends in a table of fewer than 2 ^ 33.
     pub fn sound(&self)
         ensures covered { AreCovered self.now }
         ensures few { count_by is_some self.now.ranges ≤ 2 ^ 32 }
@@ -211,24 +211,23 @@ impl Ranges {
         self.chains.sound();
     }
 
-    // Whether no range is live.
+    // Returns whether no range is live.
     pub(crate) fn is_idle(&self) -> bool
         ensures { result ≡ true → live_nodes self.now ≡ [] }
     {
         self.count() == 0
     }
 
-    // So many nodes inside are asked for the ends that stand in them, before each end is asked for its node instead: the way that ends first
-    // is taken to its end.
+    // Bounds a walk inside a subtree, after which each end is asked for its node instead: whichever way is shorter finishes.
     pub(crate) fn steps<X>(&self, tree: &Tree<X>, top: NodeId) -> usize
         requires { HasNode tree.now.forest top }
     {
         tree.steps_inside(top, |index| chains::node(&self.chains, index))
     }
 
-    /// Whether an end of a live range stands inside a node.
+    /// Returns whether an end of a live range is inside a subtree.
     ///
-    /// It walks the nodes inside, or climbs from each end where that takes fewer steps.
+    /// Walks the subtree, or climbs from each end if that takes fewer steps.
     pub fn refers<X>(&self, tree: &Tree<X>, top: NodeId) -> bool
         requires { HasNode tree.now.forest top }
         ensures { result ≡ list_any (λ m. among m (inclusive_descendants tree.now.forest top))
@@ -237,7 +236,7 @@ impl Ranges {
         self.refers_within(tree, top, self.steps(tree, top))
     }
 
-    // The same, asked of so many nodes inside, or of each end where there are more.
+    // Walks at most `steps` nodes of the subtree, and visits each end if there are more.
     pub(crate) fn refers_within<X>(&self, tree: &Tree<X>, top: NodeId, steps: usize) -> bool
         requires { HasNode tree.now.forest top }
         ensures { result ≡ list_any (λ m. among m (inclusive_descendants tree.now.forest top))

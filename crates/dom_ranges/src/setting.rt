@@ -1,4 +1,4 @@
-//! Live ranges set anew (DOM Standard, "Interface Range").
+//! Setting live ranges (DOM Standard, "Interface Range").
 
 ghost use Rattle.std.specs.Prelude.{◌≡◌, None, IsSome, OnOk, OnErr};
 ghost use Rattle.std.specs.Option.{ForSome};
@@ -20,7 +20,7 @@ use dom_point::{Point, checked_point, found_before, points_around, same_root};
 use dom_tree::{Body, NodeId, Tree};
 
 impl Ranges {
-    /// Sets the start. In another tree, or past the end, the end moves there too. An index that this asks for is known when it is asked for again.
+    /// Sets the start. If it is in another tree or past the end, the end moves there too. Caches the indices that it needs.
     pub fn set_start<X: Body>(
         &mut self,
         tree: &mut Tree<X>,
@@ -48,7 +48,7 @@ impl Ranges {
         Ok(())
     }
 
-    /// Sets the end. In another tree, or ahead of the start, the start moves there too. An index that this asks for is known when it is asked for again.
+    /// Sets the end. If it is in another tree or before the start, the start moves there too. Caches the indices that it needs.
     pub fn set_end<X: Body>(
         &mut self,
         tree: &mut Tree<X>,
@@ -76,7 +76,7 @@ impl Ranges {
         Ok(())
     }
 
-    /// Sets the range around a node, from before it to after it. A node without a parent is refused.
+    /// Sets the range around a node. Refuses a root.
     pub fn select<X>(&mut self, tree: &Tree<X>, r: RangeId, node: NodeId) -> Result<(), DomError>
         requires held { IsSome (range_in self.old r) }
         requires node { HasNode tree.now.forest node }
@@ -108,7 +108,7 @@ impl Ranges {
         self.write(r, start, end);
     }
 
-    /// Sets the range to all that a node contains. A doctype is refused.
+    /// Sets the range around a node's contents. Refuses a doctype.
     pub fn select_contents<X: Body>(
         &mut self,
         tree: &Tree<X>,
@@ -144,7 +144,7 @@ impl Ranges {
         self.write(r, p, p);
     }
 
-    /// Both ends become the start, or the end.
+    /// Collapses the range to its start or its end.
     pub fn collapse(&mut self, r: RangeId, to_start: bool)
         requires { IsSome (range_in self.old r) }
         ensures set { RangeBecomes r (collapsed to_start) self.old self.new }

@@ -1,4 +1,4 @@
-//! How a change of the tree moves the points that it concerns.
+//! How a change of the tree moves boundary points.
 
 ghost use Rattle.std.specs.Prelude.{◌≡◌, ◌^◌, ◌<◌};
 ghost use Rattle.dom_model.specs.BoundaryPoints.Points.{after_split, after_merge};
@@ -12,14 +12,14 @@ use dom_tree::NodeId;
 /// A map of points (DOM Standard, "Live ranges").
 #[derive(Clone, Copy)]
 pub(crate) enum Shift {
-    /// In a node, at `at`, `added` units or children take the place of `count`.
+    /// In a node, at `at`, `added` units or children replace `count`.
     Splice {
         inside: NodeId,
         at: usize,
         count: usize,
         added: usize,
     },
-    /// A Text, the child of its parent at the index, is split at `at`.
+    /// A Text, its parent's child at the index, is split at `at`.
     Split {
         text: NodeId,
         at: usize,
@@ -27,7 +27,7 @@ pub(crate) enum Shift {
         parent: NodeId,
         index: usize,
     },
-    /// A Text, the child of its parent at the index, is joined to another, whose length was `base`.
+    /// A Text, its parent's child at the index, is merged into another, whose length was `base`.
     Merge {
         from: NodeId,
         into: NodeId,
@@ -35,7 +35,7 @@ pub(crate) enum Shift {
         parent: NodeId,
         index: usize,
     },
-    /// All points go to one.
+    /// All points move to one.
     Gather {
         to: Point,
     },
@@ -56,7 +56,7 @@ impl Change<usize> for Shift {
 }
 
 impl Shift {
-    // Where a point goes.
+    // Returns the new point.
     fn moved(&self, point: Point) -> Point
         requires { point.offset < 2 ^ 64 → (shifted self.now point).offset < 2 ^ 64 }
         ensures { result ≡ shifted self.now point }
@@ -91,7 +91,7 @@ impl Shift {
     }
 }
 
-// An offset, once `added` units stand in the place of `count`.
+// Returns an offset after `added` units have replaced `count`.
 fn spliced(offset: usize, at: usize, count: usize, added: usize) -> usize
     requires { spliced_offset at count added offset < 2 ^ 64 }
     ensures { result ≡ spliced_offset at count added offset }
@@ -105,7 +105,7 @@ fn spliced(offset: usize, at: usize, count: usize, added: usize) -> usize
     }
 }
 
-// Where a point goes as a Text is split.
+// Returns a point after a Text was split.
 fn split(point: Point, text: NodeId, at: usize, new: NodeId, parent: NodeId, index: usize) -> Point
     requires { point.offset < 2 ^ 64 → (after_split text at new parent index point).offset
         < 2 ^ 64 }
@@ -127,7 +127,7 @@ fn split(point: Point, text: NodeId, at: usize, new: NodeId, parent: NodeId, ind
     point
 }
 
-// Where a point goes as a Text is joined to another.
+// Returns a point after a Text was merged into another.
 fn merged(
     point: Point,
     from: NodeId,

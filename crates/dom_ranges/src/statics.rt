@@ -25,10 +25,10 @@ use std::marker::Model;
 #[derive(Clone, Copy, Debug, PartialEq, Eq, Hash, Drop)]
 pub struct OfStatic;
 
-/// The number by which callers name a static range: the first that is made has 0, and no number is used again.
+/// The number of a static range. The first is 0, and no number is reused.
 pub type StaticId = Id<OfStatic>;
 
-/// Two points that no change of the tree moves.
+/// Two boundary points that no change of the tree moves.
 #[derive(Clone, Copy, Drop)]
 struct StaticRange {
     start: Point,
@@ -45,9 +45,7 @@ impl Model for StaticRange {
     ghost inverse = { λ r. record { start = r.start; end = r.end } };
 }
 
-/// The static ranges of a session.
-///
-/// Beside them it is counted how many of their ends stand in each node.
+/// The static ranges of a session, and the number of their ends by node.
 #[derive(Drop)]
 pub struct Statics {
     ranges: Slotted<StaticRange>,
@@ -68,7 +66,7 @@ impl Model for Statics {
 }
 
 impl Statics {
-    /// No static ranges. It takes no memory.
+    /// Returns a table without static ranges. It takes no memory.
     pub fn new(alloc: Global) -> Statics
         ensures { result ≡ [] }
     {
@@ -78,7 +76,7 @@ impl Statics {
         }
     }
 
-    /// The refusal of a doctype as either node.
+    /// Refuses a doctype as either node.
     pub fn check<X>(tree: &Tree<X>, start: NodeId, end: NodeId) -> Result<(), DomError>
         requires start_held { HasNode tree.now.forest start }
         requires end_held { HasNode tree.now.forest end }
@@ -107,35 +105,35 @@ impl Statics {
         Ok(StaticId::new(number))
     }
 
-    /// How many were ever made.
+    /// Returns how many were ever made.
     pub fn made(&self) -> u64
         ensures { result ≡ length self.now }
     {
         self.ranges.made()
     }
 
-    /// How many there are, without those that were released, in constant time.
+    /// Returns how many are not released, in constant time.
     pub fn count(&self) -> usize
         ensures { result ≡ count_by is_some self.now }
     {
         self.ranges.count()
     }
 
-    // The range of a number; none where it was released, or was never given out.
+    // Returns the range of a number; none if it was released or never given out.
     fn range(&self, u: StaticId) -> Option<StaticRange>
         ensures { result ≡ item_at self.now u }
     {
         self.ranges.get(u.number()).copied()
     }
 
-    /// Whether there is such a static range, and it was not released.
+    /// Returns whether a number is that of a static range that was not released.
     pub fn holds(&self, u: StaticId) -> bool
         ensures { result ≡ is_some (item_at self.now u) }
     {
         self.ranges.holds(u.number())
     }
 
-    /// Where a static range starts, and where it ends.
+    /// Returns the start and the end of a static range.
     pub fn ends(&self, u: StaticId) -> (Point, Point)
         requires { IsSome (item_at self.now u) }
         ensures { item_at self.now u ≡ Some (record { start = result.0; end = result.1 }) }
@@ -144,7 +142,7 @@ impl Statics {
         (start, end)
     }
 
-    /// Releases a static range: its number is not used again. It takes no memory.
+    /// Releases a static range. Its number is not reused. It takes no memory.
     pub fn release(&mut self, u: StaticId)
         requires { IsSome (item_at self.old u) }
         ensures { self.new ≡ slice_set self.old u None }
@@ -154,7 +152,7 @@ impl Statics {
         self.counts.take(end.node);
     }
 
-    /// Whether the range is valid as the tree stands. Both its nodes are held. An index that this asks for is known when it is asked for again.
+    /// Returns whether the range is valid in the tree. Requires that both nodes are held. Caches the indices that it needs.
     pub fn is_valid<X: Body>(&self, tree: &mut Tree<X>, u: StaticId) -> bool
         requires held { IsSome (item_at self.now u) }
         requires start_held { ForSome (item_at self.now u) (λ r.
@@ -168,9 +166,9 @@ impl Statics {
         are_valid(tree, start, end)
     }
 
-    /// Whether an end of a static range stands inside a node.
+    /// Returns whether an end of a static range is inside a subtree.
     ///
-    /// It walks the nodes inside, or climbs from each end where that takes fewer steps.
+    /// Walks the subtree, or climbs from each end if that takes fewer steps.
     pub fn refers<X>(&self, tree: &Tree<X>, top: NodeId) -> bool
         requires { HasNode tree.now.forest top }
         ensures { result ≡ list_any (λ m. among m (inclusive_descendants tree.now.forest top))
@@ -184,7 +182,7 @@ impl Statics {
         }
     }
 
-    // The node of an end, of the two of the range in each slot; none past the last.
+    // Returns the node of an end, two for the range in each slot; none past the last.
     fn node(&self, index: usize) -> Option<NodeId> {
         let range = self.ranges.items().get(index / 2)?;
         if index % 2 == 0 {
@@ -194,7 +192,7 @@ impl Statics {
         }
     }
 
-    // Whether an end stands in a node.
+    // Returns whether a node has an end.
     fn names(&self, node: NodeId) -> bool
         ensures { result ≡ among node (flat_map (nodes_unless_released nodes_of_range) self.now) }
     {
@@ -203,7 +201,7 @@ impl Statics {
     }
 }
 
-// Whether an end of one of these ranges stands inside a node. It asks each range.
+// Returns whether an end of one of these ranges is inside a subtree. Visits each range.
 fn refer<X>(ranges: &[StaticRange], tree: &Tree<X>, top: NodeId) -> bool
     ensures { result ≡ list_any (λ m. among m (inclusive_descendants tree.now.forest top))
         (flat_map nodes_of_range ranges.now) }
@@ -216,7 +214,7 @@ fn refer<X>(ranges: &[StaticRange], tree: &Tree<X>, top: NodeId) -> bool
     false
 }
 
-// Whether an offset is within the length of a node.
+// Returns whether an offset is within a node's length.
 fn is_within<X: Body>(tree: &Tree<X>, node: NodeId, offset: usize) -> bool
     requires { HasNode tree.now.forest node }
     ensures { result ≡ nat_le offset (node_length X.length tree.now.forest node) }
@@ -224,7 +222,7 @@ fn is_within<X: Body>(tree: &Tree<X>, node: NodeId, offset: usize) -> bool
     offset <= tree.length(node)
 }
 
-// Whether two points are the ends of a valid range.
+// Returns whether two points are the ends of a valid range.
 fn are_valid<X: Body>(tree: &mut Tree<X>, start: Point, end: Point) -> bool
     requires start_held { HasNode tree.old.forest start.node }
     requires end_held { HasNode tree.old.forest end.node }

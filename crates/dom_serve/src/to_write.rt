@@ -1,28 +1,32 @@
 //! A writer made of one of std's.
 
-ghost use Rattle.std.specs.Prelude.{◌≡◌, ℕ, List, true};
+ghost use Rattle.std.specs.Prelude.{◌≡◌, ℕ, List, true, IsSome, None};
 ghost use Rattle.std.specs.Io.KnownBytes.{Appends, Keeps};
 
+use crate::last_error::LastError;
 use crate::streams::{Failed, Sink};
-use std::io::Write;
+use std::io::{Error, ErrorKind, Write};
 
 /// A std writer as a `Sink`: a write or a flush of one is that of the other, also after one that failed. A write that takes
-/// no byte of a slice that has some is a failure.
+/// no byte of a slice that has some is a failure. It keeps the last error.
 #[derive(Drop)]
 pub struct ToWrite<W> {
     inner: W,
     // Whether it was flushed after the last write.
     flushed: bool,
+    error: Option<Error>,
 }
 
 impl<W: Write> ToWrite<W> {
     pub fn new(inner: W) -> ToWrite<W>
         ensures taken { ⟦<ToWrite<W> as Sink>⟧.writing.taken result ≡ W.contents inner }
         ensures passed { ⟦<ToWrite<W> as Sink>⟧.writing.is_passed_on result ≡ true }
+        ensures error { ⟦<ToWrite<W> as LastError>⟧.error result ≡ None }
     {
         ToWrite {
             inner,
             flushed: true,
+            error: None,
         }
     }
 
@@ -30,8 +34,19 @@ impl<W: Write> ToWrite<W> {
     pub fn into_inner(self) -> W
         ensures { W.contents result ≡ ⟦<ToWrite<W> as Sink>⟧.writing.taken self }
     {
-        let ToWrite { inner, flushed: _ } = self;
+        let ToWrite {
+            inner,
+            flushed: _,
+            error: _,
+        } = self;
         inner
+    }
+
+    fn failed(&mut self, error: Error) -> Failed
+        ensures { self.new ≡ record self.old { error = Some error } }
+    {
+        self.error = Some(error);
+        Failed
     }
 }
 
@@ -40,14 +55,15 @@ impl<W: Write> Sink for ToWrite<W> {
       taken = λ s. W.contents s.inner;
       is_passed_on = λ s. s.flushed;
       works = λ s t. (bytes : List ℕ) × Appends (W.contents s.inner) (W.contents t.inner) bytes;
-      fails = λ s t. Keeps (W.contents s.inner) (W.contents t.inner);
+      fails = λ s t. Keeps (W.contents s.inner) (W.contents t.inner) × IsSome t.error;
     } };
 
     fn write(&mut self, buf: &[u8]) -> Result<usize, Failed> {
         self.flushed = false;
         match self.inner.write(buf) {
             Ok(n) if 0 < n || buf.is_empty() => Ok(n),
-            _ => Err(Failed),
+            Ok(_) => Err(self.failed(Error::from(ErrorKind::WriteZero))),
+            Err(error) => Err(self.failed(error)),
         }
     }
 
@@ -57,7 +73,15 @@ impl<W: Write> Sink for ToWrite<W> {
                 self.flushed = true;
                 Ok(())
             }
-            Err(_) => Err(Failed),
+            Err(error) => Err(self.failed(error)),
         }
+    }
+}
+
+impl<W> LastError for ToWrite<W> {
+    ghost error = { λ s. s.error };
+
+    fn last_error(&self) -> Option<Error> {
+        self.error
     }
 }

@@ -44,7 +44,7 @@ pub(crate) fn set_attribute(
     Ok(Reply::Brief(Brief::Nothing))
 }
 
-// The data and the attributes of a node.
+// Borrows the content of a node.
 fn content_in(tree: &Tree<Content>, node: NodeId) -> &Content
     requires { HasNode tree.now.forest node }
     ensures { result.now ≡ content_in (entry_in tree.now.forest node) }
@@ -52,7 +52,7 @@ fn content_in(tree: &Tree<Content>, node: NodeId) -> &Content
     tree.body(node)
 }
 
-// A copy of the value of an attribute, where there is one.
+// Returns a copy of the value of an attribute, if it is there.
 fn value_in(
     tree: &Tree<Content>,
     alloc: Global,
@@ -69,7 +69,7 @@ fn value_in(
     }
 }
 
-/// The value of an attribute of an element, where there is one.
+/// Returns the value of an attribute of an element, if it is there.
 pub(crate) fn get_attribute(
     world: &World,
     alloc: Global,
@@ -87,7 +87,7 @@ pub(crate) fn get_attribute(
     Ok(Reply::Done(Answer::MaybeUnits(value)))
 }
 
-// Whether there is an attribute of that name.
+// Returns whether there is an attribute of that name.
 fn has_in(tree: &Tree<Content>, element: NodeId, name: &str) -> bool
     requires { HasNode tree.now.forest element }
     ensures { result ≡ is_some (attribute_value name.now
@@ -96,7 +96,7 @@ fn has_in(tree: &Tree<Content>, element: NodeId, name: &str) -> bool
     content_in(tree, element).attribute(name).is_some()
 }
 
-/// Whether an element has an attribute of that name.
+/// Returns whether an element has an attribute of that name.
 pub(crate) fn has_attribute(world: &World, element: NodeId, name: &str) -> Reply
     ensures step { (b : Bounds) →
         IsStep world.now world.now b (HasAttribute element name.now) result }
@@ -108,7 +108,7 @@ pub(crate) fn has_attribute(world: &World, element: NodeId, name: &str) -> Reply
     Reply::Done(Answer::Flag(has_in(&world.tree, element, name)))
 }
 
-/// Removes an attribute of an element, where it is there.
+/// Removes an attribute of an element, if it is there.
 pub(crate) fn remove_attribute(
     world: &mut World,
     element: NodeId,
@@ -126,7 +126,7 @@ pub(crate) fn remove_attribute(
     Ok(Reply::Brief(Brief::Nothing))
 }
 
-/// Adds or removes an attribute of an element, and answers whether it is there afterwards.
+/// Adds or removes an attribute of an element, and returns whether it is there afterwards.
 pub(crate) fn toggle_attribute(
     world: &mut World,
     alloc: Global,
@@ -149,7 +149,7 @@ pub(crate) fn toggle_attribute(
     Ok(Reply::Done(Answer::Flag(present)))
 }
 
-// Copies of the names of attributes, in order.
+// Returns copies of the names of attributes, in order.
 fn names_in(content: &Content, alloc: Global) -> Result<Vec<String>, AllocError>
     ensures { IfOk result (λ names. map string_bytes names.items
         ≡ attribute_names content.now.attributes) }
@@ -163,7 +163,7 @@ fn names_in(content: &Content, alloc: Global) -> Result<Vec<String>, AllocError>
     Ok(names)
 }
 
-/// The names of the attributes of an element, in order.
+/// Returns the names of an element's attributes, in order.
 pub(crate) fn attribute_names(
     world: &World,
     alloc: Global,

@@ -1,4 +1,4 @@
-//! The commands that a session takes, in groups: one for each name of the table, and four that no line has, by which what was made is released.
+//! The commands of a session, in groups: one for each name of the table, and four without a line, which release objects.
 
 use dom_model::Move;
 use dom_observe::{ObserverId, RawOptions};
@@ -27,7 +27,7 @@ pub enum Making {
     CreateFragment(NodeId),
 }
 
-/// A command that changes where nodes stand.
+/// An edit of the tree.
 #[derive(Drop)]
 pub enum Editing {
     /// Inserts the second node into the first, before a child or last.
@@ -36,36 +36,36 @@ pub enum Editing {
     AppendChild(NodeId, NodeId),
     /// Adopts a node into a document.
     AdoptNode(NodeId, NodeId),
-    /// Puts the second node in place of the third, a child of the first.
+    /// Replaces the third node, a child of the first, by the second.
     ReplaceChild(NodeId, NodeId, NodeId),
     /// Removes a child.
     RemoveChild(NodeId, NodeId),
-    /// Removes a node from its parent, where it has one.
+    /// Removes a node from its parent, if it has one.
     Remove(NodeId),
-    /// Puts a node, or none, in place of all children.
+    /// Replaces all children by a node, or by none.
     ReplaceChildren(NodeId, Option<NodeId>),
-    /// Lets a node and all below it go.
+    /// Frees a node and its descendants.
     Discard(NodeId),
 }
 
 /// A question about a node.
 #[derive(Drop)]
 pub enum Asking {
-    /// Tells where a node stands, and what it is.
+    /// Returns a node's kind and its place in the tree.
     DescribeNode(NodeId),
     /// The children of a node.
     Children(NodeId),
-    /// How many siblings stand before a node.
+    /// The number of siblings before a node.
     Index(NodeId),
     /// The length of a node.
     Length(NodeId),
     /// The root of a node.
     Root(NodeId),
-    /// Prints a node and all below it.
+    /// Prints a node and its descendants.
     Tree(NodeId),
 }
 
-/// A command that makes, tells or releases a live range.
+/// A command that makes, reads or releases a live range.
 #[derive(Drop)]
 pub enum Ranging {
     /// Makes a live range at the start of a document.
@@ -74,7 +74,7 @@ pub enum Ranging {
     CloneRange(RangeId),
     /// The ends of a live range.
     DescribeRange(RangeId),
-    /// Lets a live range go.
+    /// Releases a live range.
     ReleaseRange(RangeId),
 }
 
@@ -97,7 +97,7 @@ pub enum Setting {
     Collapse(RangeId, bool),
     /// Sets the ends around a node.
     SelectNode(RangeId, NodeId),
-    /// Sets the ends around what a node has.
+    /// Sets the ends around the contents of a node.
     SelectNodeContents(RangeId, NodeId),
 }
 
@@ -110,39 +110,39 @@ pub enum Comparing {
     ComparePoint(RangeId, NodeId, u32),
     /// Whether a point is in a range.
     IsPointInRange(RangeId, NodeId, u32),
-    /// Whether a range and a node meet.
+    /// Whether a range intersects a node.
     IntersectsNode(RangeId, NodeId),
-    /// The deepest node that has both ends in it.
+    /// The deepest inclusive ancestor of both ends.
     CommonAncestor(RangeId),
 }
 
-/// A command that makes, tells or releases a static range.
+/// A command that makes, reads or releases a static range.
 #[derive(Drop)]
 pub enum StaticRanging {
     /// Makes a static range.
     CreateStaticRange(Point, Point),
     /// The ends of a static range, and whether it is valid.
     DescribeStaticRange(StaticId),
-    /// Lets a static range go.
+    /// Releases a static range.
     ReleaseStaticRange(StaticId),
 }
 
-/// A question that takes no memory, and that a session answers after its end too.
+/// A question that takes no memory, so a session answers it after its end too.
 #[derive(Drop)]
 pub enum Reading {
-    /// How many siblings stand before a node.
+    /// The number of siblings before a node.
     Index(NodeId),
     /// The length of a node.
     Length(NodeId),
     /// The root of a node.
     Root(NodeId),
-    /// Where a live range starts and ends.
+    /// The start and the end of a live range.
     Range(RangeId),
-    /// Where a static range starts and ends, and whether it is valid.
+    /// The start and the end of a static range, and whether it is valid.
     StaticRange(StaticId),
-    /// Where an iterator stands.
+    /// The position of an iterator.
     Iterator(IteratorId),
-    /// Where a walker stands.
+    /// The current node of a walker.
     Walker(WalkerId),
 }
 
@@ -153,21 +153,21 @@ pub enum Traversing {
     CreateIterator(NodeId, Filter),
     /// Makes a tree walker.
     CreateWalker(NodeId, Filter),
-    /// Tells where an iterator stands.
+    /// Returns the position of an iterator.
     DescribeIterator(IteratorId),
     /// Moves an iterator on.
     NextNode(IteratorId),
     /// Moves an iterator back.
     PreviousNode(IteratorId),
-    /// Tells where a walker stands.
+    /// Returns the current node of a walker.
     DescribeWalker(WalkerId),
     /// Sets a walker on a node.
     SetCurrent(WalkerId, NodeId),
     /// Moves a walker.
     Walk(WalkerId, Move),
-    /// Lets an iterator go.
+    /// Releases an iterator.
     ReleaseIterator(IteratorId),
-    /// Lets a walker go.
+    /// Releases a walker.
     ReleaseWalker(WalkerId),
 }
 
@@ -176,32 +176,32 @@ pub enum Traversing {
 pub enum Observing {
     /// Makes a mutation observer.
     CreateObserver,
-    /// Lets an observer watch a node.
+    /// Registers an observer at a node.
     Observe(ObserverId, NodeId, RawOptions),
-    /// Lets an observer watch nothing more.
+    /// Removes all registrations and records of an observer.
     Disconnect(ObserverId),
     /// Takes the records of an observer.
     TakeRecords(ObserverId),
-    /// Hands its records to each observer that waits.
+    /// Gives each pending observer its records.
     Notify,
-    /// The observers that wait to be told.
+    /// The pending observers.
     Pending,
-    /// Lets an observer go, with all that it observes and the records that wait for it.
+    /// Releases an observer, with its registrations and queued records.
     ReleaseObserver(ObserverId),
-    /// Takes the observers that wait to be told, of whom none waits any more, in the order in which each is to be told.
+    /// Takes the pending observers, in the order in which each is to be notified. None is pending afterwards.
     TakePending,
-    /// Tells an observer in its turn: takes its records, and ends its transient registrations.
+    /// Notifies an observer in its turn: takes its records, and removes its transient registrations.
     TellObserver(ObserverId),
 }
 
 /// A command on data or text.
 #[derive(Drop)]
 pub enum Texts {
-    /// Joins Text nodes below a node that stand side by side, and drops empty ones.
+    /// Joins adjacent Text nodes below a node, and removes empty ones.
     Normalize(NodeId),
     /// The text in a node.
     TextContent(NodeId),
-    /// Puts a text in place of what a node has.
+    /// Replaces the contents of a node by a text.
     SetTextContent(NodeId, Units),
     /// The data of a node.
     GetData(NodeId),
@@ -211,11 +211,11 @@ pub enum Texts {
     AppendData(NodeId, Units),
     /// Inserts at an offset.
     InsertData(NodeId, u32, Units),
-    /// Deletes so many units from an offset on.
+    /// Deletes a number of units from an offset on.
     DeleteData(NodeId, u32, u32),
-    /// Puts a text in place of so many units from an offset on.
+    /// Replaces a number of units from an offset on by a text.
     ReplaceData(NodeId, u32, u32, Units),
-    /// So many units from an offset on.
+    /// A number of units from an offset on.
     SubstringData(NodeId, u32, u32),
     /// Splits a Text at an offset.
     SplitText(NodeId, u32),
@@ -232,7 +232,7 @@ pub enum Attributes {
     HasAttribute(NodeId, String),
     /// Removes an attribute.
     RemoveAttribute(NodeId, String),
-    /// Adds or removes an attribute; where it is told which, only that.
+    /// Adds or removes an attribute; with `force` only that one of both.
     ToggleAttribute(NodeId, String, Option<bool>),
     /// The names of the attributes, in order.
     AttributeNames(NodeId),
@@ -241,15 +241,15 @@ pub enum Attributes {
 /// A command that copies or compares nodes.
 #[derive(Drop)]
 pub enum Copying {
-    /// A copy of a node for another document, with or without all below it.
+    /// A copy of a node for another document, with or without its descendants.
     ImportNode(NodeId, NodeId, bool),
-    /// A copy of a node, with or without all below it.
+    /// A copy of a node, with or without its descendants.
     CloneNode(NodeId, bool),
     /// Whether the second is an inclusive descendant of the first.
     IsContaining(NodeId, Option<NodeId>),
     /// Whether both nodes are equal.
     IsEqual(NodeId, Option<NodeId>),
-    /// Where the second stands, seen from the first.
+    /// The position of the second relative to the first.
     ComparePosition(NodeId, NodeId),
 }
 
@@ -258,15 +258,15 @@ pub enum Copying {
 pub enum Contents {
     /// The text in a range.
     RangeText(RangeId),
-    /// Deletes what is in a range.
+    /// Deletes the contents of a range.
     DeleteContents(RangeId),
-    /// Takes what is in a range into a fragment.
+    /// Moves the contents of a range into a fragment.
     ExtractContents(RangeId),
-    /// Copies what is in a range into a fragment.
+    /// Copies the contents of a range into a fragment.
     CloneContents(RangeId),
     /// Inserts a node at the start of a range.
     InsertNode(RangeId, NodeId),
-    /// Puts what is in a range into a node, and that node in its place.
+    /// Moves the contents of a range into a node, and inserts the node in their place.
     SurroundContents(RangeId, NodeId),
 }
 
@@ -275,19 +275,19 @@ pub enum Contents {
 pub enum Command {
     /// Makes a node.
     Making(Making),
-    /// Changes where nodes stand.
+    /// Edits the tree.
     Editing(Editing),
     /// Asks about a node.
     Asking(Asking),
-    /// Makes, tells or releases a live range.
+    /// Makes, reads or releases a live range.
     Ranging(Ranging),
     /// Sets the ends of a live range.
     Setting(Setting),
     /// Asks about a live range.
     Comparing(Comparing),
-    /// Makes, tells or releases a static range.
+    /// Makes, reads or releases a static range.
     StaticRanging(StaticRanging),
-    /// Makes, tells, moves or releases an iterator or a walker.
+    /// Makes, reads, moves or releases an iterator or a walker.
     Traversing(Traversing),
     /// Acts on observers.
     Observing(Observing),

@@ -1,4 +1,4 @@
-//! The questions about live ranges: how points and nodes stand to them (DOM Standard, "Interface Range").
+//! Questions about live ranges: the position of points and nodes relative to them (DOM Standard, "Interface Range").
 
 ghost use Rattle.std.specs.Prelude.{◌≡◌, true};
 ghost use Rattle.dom_model.specs.Forests.Forest.{HasNode, root_of};
@@ -23,7 +23,7 @@ use dom_ranges::RangeId;
 use dom_tree::{NodeId, Tree};
 use std::cmp::Ordering;
 
-// Where a point of the range's root stands: before it, after it, or in it.
+// Returns whether a point of the range's root is before the range, after it, or in it.
 fn place(tree: &mut Tree<Content>, point: Point, start: Point, end: Point) -> Ordering
     requires point_held { HasNode tree.old.forest point.node }
     requires stands { StandsIn tree.old.forest (record { start = start; end = end }) }
@@ -41,7 +41,7 @@ fn place(tree: &mut Tree<Content>, point: Point, start: Point, end: Point) -> Or
     Ordering::Equal
 }
 
-// Whether a point of the range's root stands neither before the range nor after it.
+// Returns whether a point of the range's root is neither before the range nor after it.
 fn is_inside(tree: &mut Tree<Content>, point: Point, start: Point, end: Point) -> bool
     requires point_held { HasNode tree.old.forest point.node }
     requires stands { StandsIn tree.old.forest (record { start = start; end = end }) }
@@ -86,7 +86,7 @@ pub(crate) fn compare_boundary_points(
     Reply::Done(Answer::Order(found_order(&mut world.tree, this, other)))
 }
 
-/// Whether a point stands before a live range, in it, or after it.
+/// Returns whether a point is before a live range, in it, or after it.
 pub(crate) fn compare_point(world: &mut World, range: RangeId, node: NodeId, offset: u32) -> Reply
     requires shown { IsShown world.old }
     ensures step { (b : Bounds) → IsStep world.old world.new b (ComparePoint range node offset)
@@ -112,7 +112,7 @@ pub(crate) fn compare_point(world: &mut World, range: RangeId, node: NodeId, off
     }
 }
 
-/// Whether a point stands in a live range; a point of another root does not.
+/// Returns whether a point is in a live range; a point of another root is not.
 pub(crate) fn is_point_in_range(
     world: &mut World,
     range: RangeId,
@@ -143,7 +143,7 @@ pub(crate) fn is_point_in_range(
     }
 }
 
-// Whether a node of the range's root meets the range. A root does.
+// Returns whether a node of the range's root intersects the range. A root does.
 fn meets(tree: &mut Tree<Content>, node: NodeId, start: Point, end: Point) -> bool
     requires node_held { HasNode tree.old.forest node }
     requires stands { StandsIn tree.old.forest (record { start = start; end = end }) }
@@ -160,7 +160,7 @@ fn meets(tree: &mut Tree<Content>, node: NodeId, start: Point, end: Point) -> bo
     found_before(tree, before, end) && found_before(tree, start, after)
 }
 
-/// Whether a live range and a node meet.
+/// Returns whether a live range intersects a node.
 pub(crate) fn intersects_node(world: &mut World, range: RangeId, node: NodeId) -> Reply
     requires shown { IsShown world.old }
     ensures step { (b : Bounds) → IsStep world.old world.new b (IntersectsNode range node) result }
@@ -173,7 +173,7 @@ pub(crate) fn intersects_node(world: &mut World, range: RangeId, node: NodeId) -
     Reply::Done(Answer::Flag(meets(&mut world.tree, node, start, end)))
 }
 
-/// The deepest node that has both ends of a live range in it.
+/// Returns the deepest inclusive ancestor of both boundary points of a live range.
 pub(crate) fn common_ancestor(world: &World, range: RangeId) -> Reply
     requires shown { IsShown world.now }
     ensures step { (b : Bounds) → IsStep world.now world.now b (CommonAncestor range) result }

@@ -20,7 +20,7 @@ use dom_ranges::RangeId;
 use dom_tree::NodeId;
 use std::alloc::{AllocError, Global};
 
-/// The data of the Texts that lie in a live range.
+/// Returns the data of the Texts in a live range.
 pub(crate) fn range_text(world: &World, alloc: Global, range: RangeId) -> Result<Reply, AllocError>
     requires shown { IsShown world.now }
     ensures { IfOk result (λ reply. (b : Bounds) →
@@ -33,7 +33,7 @@ pub(crate) fn range_text(world: &World, alloc: Global, range: RangeId) -> Result
     Ok(Reply::Done(Answer::Units(text)))
 }
 
-/// Deletes what lies in a live range.
+/// Deletes the contents of a live range.
 pub(crate) fn delete_contents(
     world: &mut World,
     alloc: Global,
@@ -51,7 +51,7 @@ pub(crate) fn delete_contents(
     Ok(Reply::Brief(Brief::Nothing))
 }
 
-/// Takes what lies in a live range into a new fragment, and answers that.
+/// Moves the contents of a live range into a new fragment, and returns the fragment.
 pub(crate) fn extract_contents(
     world: &mut World,
     numbers: u64,
@@ -76,7 +76,7 @@ pub(crate) fn extract_contents(
     }
 }
 
-/// Copies what lies in a live range into a new fragment, and answers that.
+/// Copies the contents of a live range into a new fragment, and returns the fragment.
 pub(crate) fn clone_contents(
     world: &mut World,
     numbers: u64,
@@ -127,7 +127,7 @@ pub(crate) fn insert_node(
     }
 }
 
-/// Puts what lies in a live range into a node, and that node in its place.
+/// Moves the contents of a live range into a node, and inserts the node in their place.
 pub(crate) fn surround_contents(
     world: &mut World,
     numbers: u64,
@@ -153,7 +153,7 @@ pub(crate) fn surround_contents(
     }
 }
 
-// The live range whose contents a command is about.
+// Returns the live range whose contents a command reads or changes.
 fn range_of(command: &Contents) -> RangeId {
     match *command {
         Contents::RangeText(range)
@@ -165,10 +165,10 @@ fn range_of(command: &Contents) -> RangeId {
     }
 }
 
-// Behind how many children one is looked for ahead of a command. Nearer ones are found in a few steps each time.
+// Children behind more siblings than this are looked up before a command. Nearer ones take a few steps each time.
 const FAR: usize = 64;
 
-// Finds the child at a point, so that what asks for it next has it at once.
+// Caches the index of the child at a point, for the next question.
 fn find_child(world: &mut World, point: Point)
     ensures { world.new ≡ world.old }
 {
@@ -177,7 +177,7 @@ fn find_child(world: &mut World, point: Point)
     }
 }
 
-// Finds the children at the ends of a live range.
+// Caches the indices of the children at both boundary points of a live range.
 fn find_ends(world: &mut World, range: RangeId)
     ensures { world.new ≡ world.old }
 {
@@ -188,7 +188,7 @@ fn find_ends(world: &mut World, range: RangeId)
     }
 }
 
-/// Answers the commands on the contents of ranges. Where an end lies far from both ends of its node's children it is found once, and has no walk from then on.
+/// Answers the commands on the contents of ranges. If a boundary point is far from both ends of its node's children, its index is cached first, so that no step walks there.
 pub(crate) fn change_contents(
     world: &mut World,
     numbers: u64,

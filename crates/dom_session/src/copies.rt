@@ -1,4 +1,4 @@
-//! Copies, equality, and how nodes stand to each other (DOM Standard, "Interface Node", "Interface Document").
+//! Copies, equality, and the relative position of nodes (DOM Standard, "Interface Node", "Interface Document").
 
 ghost use Rattle.std.specs.Prelude.{◌≡◌, ◌≤◌, ◌+◌, ◌*◌, nat_lt, IfOk, OnErr};
 ghost use Rattle.dom_model.specs.declared.Kind.TheVariants.{Document};
@@ -21,7 +21,7 @@ use dom_point::{Point, found_order, same_root};
 use dom_tree::NodeId;
 use std::alloc::{AllocError, Global};
 
-/// Whether too few numbers are left for a command that copies: twice the nodes in use, and eight.
+/// Returns whether too few numbers are left for a command that copies: it needs twice the nodes in use, and eight.
 pub(crate) fn lacks_numbers(world: &World, numbers: u64) -> bool
     requires { numbers ≤ 4294967295 }
     ensures { result ≡ nat_lt numbers (world.now.tree.made + (2 * size world.now.tree.forest + 8)) }
@@ -31,7 +31,7 @@ pub(crate) fn lacks_numbers(world: &World, numbers: u64) -> bool
     made >= numbers || live >= numbers || numbers - made < 2 * live + 8
 }
 
-/// Copies a node into a document, with or without all below it.
+/// Copies a node into a document, with or without its descendants.
 pub(crate) fn import_node(
     world: &mut World,
     numbers: u64,
@@ -61,7 +61,7 @@ pub(crate) fn import_node(
     }
 }
 
-/// Copies a node, with or without all below it.
+/// Copies a node, with or without its descendants.
 pub(crate) fn clone_node(
     world: &mut World,
     numbers: u64,
@@ -85,7 +85,7 @@ pub(crate) fn clone_node(
     Ok(Reply::Brief(Brief::Number(copy.number())))
 }
 
-/// Whether two nodes are equal; none is equal to no node.
+/// Returns whether two nodes are equal; a missing node equals none.
 pub(crate) fn is_equal(world: &World, node: NodeId, other: Option<NodeId>) -> Reply
     requires shown { IsShown world.now }
     ensures { (b : Bounds) → IsStep world.now world.now b (IsEqual node other) result }
@@ -102,7 +102,7 @@ pub(crate) fn is_equal(world: &World, node: NodeId, other: Option<NodeId>) -> Re
     Reply::Done(Answer::Flag(dom_clone::is_equal(&world.tree, node, other)))
 }
 
-/// Whether the second is an inclusive descendant of the first; none is of no node.
+/// Returns whether the second is an inclusive descendant of the first; a missing node is not.
 pub(crate) fn contains(world: &World, node: NodeId, other: Option<NodeId>) -> Reply
     requires shown { IsShown world.now }
     ensures { (b : Bounds) → IsStep world.now world.now b (IsContaining node other) result }
@@ -119,7 +119,7 @@ pub(crate) fn contains(world: &World, node: NodeId, other: Option<NodeId>) -> Re
     Reply::Done(Answer::Flag(dom_clone::contains(&world.tree, node, other)))
 }
 
-// Finds which of two nodes comes first, so that what asks for it next has it at once.
+// Caches the indices that decide which of two nodes comes first, for the next question.
 fn find_order(world: &mut World, node: NodeId, other: NodeId)
     requires held { HasNode world.old.tree.forest node }
     requires other_held { HasNode world.old.tree.forest other }
@@ -134,7 +134,7 @@ fn find_order(world: &mut World, node: NodeId, other: NodeId)
     }
 }
 
-/// Where the second stands, seen from the first.
+/// Returns the position of the second relative to the first.
 pub(crate) fn compare_position(world: &mut World, node: NodeId, other: NodeId) -> Reply
     requires shown { IsShown world.old }
     ensures step { (b : Bounds) → IsStep world.old world.new b (ComparePosition node other) result }

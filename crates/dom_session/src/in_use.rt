@@ -1,4 +1,4 @@
-//! How many objects a session has, so that a host can tell its memory.
+//! The number of objects in a session, so that a host can estimate its memory.
 
 ghost use Rattle.std.specs.Prelude.{◌≡◌};
 ghost use Rattle.dom_model.specs.Worlds.World.{World as PlainWorld};
@@ -7,7 +7,7 @@ ghost use Rattle.dom_session.specs.InUse.{in_use_of, in_use_in};
 
 use dom_edit::World;
 
-/// How many there are of each kind of object: those that were made, and neither discarded nor released.
+/// The number of objects of each kind that were made, and neither discarded nor released.
 ///
 /// Registrations are those of all observers, with the transient ones.
 #[derive(Clone, Copy, Debug, PartialEq, Eq)]
@@ -21,7 +21,7 @@ pub struct Counts {
     pub registrations: usize,
 }
 
-/// How many there are of each kind.
+/// Returns the number of objects of each kind.
 pub(crate) fn in_use(world: &World) -> Counts
     ensures shown { (w : PlainWorld) → Shows world.now w → result ≡ in_use_of w }
     ensures own { result ≡ in_use_in world.now }

@@ -25,9 +25,9 @@ ghost use Rattle.dom_model.specs.Soundness.Sound.{IsSound};
 ghost use Rattle.dom_model.specs.Erasure.DiscardsAlike.{replies_to_discards};
 ghost use Rattle.dom_model.specs.Erasure.Erasing.{replies_to, makes_no_discard, without_observers, replies_without_observers, makes_no_edit_by_range, without_watchers, replies_without_watchers};
 
-/// A law: observers do not feel one another. Without what some of them observe, disconnect and take, without the turns of these and their
-/// release, every other reply stays as it is, and of the replies to `notify`, to `pending` and to its taking the parts of the others stay. A
-/// `discard` may feel an observer: the list has none, or each is answered alike in both lists (DOM Standard, "Mutation observers").
+/// States that observers do not affect one another. Without the commands of some of them, their turns and their release, every other
+/// reply stays. In the replies to `notify`, to `pending` and to its taking, the parts of the others stay. An observer can affect
+/// `discard`: the list has none, or each is answered alike in both lists (DOM Standard, "Mutation observers").
 pub fn observers_apart()
     ensures without_discard { (erased : ℕ → Bool) → (b : Bounds) → (cs : List Command) →
         makes_no_discard cs ≡ true →
@@ -41,9 +41,9 @@ pub fn observers_apart()
         ≡ replies_without_observers erased cs (replies_to b first_world cs) }
 {}
 
-/// A law: the tree does not feel what only watches it. Without the commands of live ranges, static ranges, iterators and walkers,
-/// where none of them is an edit by a range, every other reply stays as it is. A `discard` may feel a watcher: the list has none, or each
-/// is answered alike in both lists (DOM Standard, "Ranges", "Traversal").
+/// States that watchers do not affect the tree. Without the commands of live ranges, static ranges, iterators and walkers, if none of
+/// them is an edit by a range, every other reply stays. A watcher can affect `discard`: the list has none, or each is answered alike in
+/// both lists (DOM Standard, "Ranges", "Traversal").
 pub fn watchers_apart()
     ensures without_discard { (b : Bounds) → (cs : List Command) →
         makes_no_edit_by_range cs ≡ true → makes_no_discard cs ≡ true →
@@ -56,30 +56,30 @@ pub fn watchers_apart()
         ≡ replies_without_watchers cs (replies_to b first_world cs) }
 {}
 
-/// A law: lines leave the world that the commands among them leave, so that what holds after any commands holds after any lines (ours).
+/// States that lines leave the world that their commands leave. So a law about all commands holds for all lines (ours).
 pub fn lines_are_their_commands()
     ensures { (table : List Row) → (b : Bounds) → (w : World) → (lines : List (List ℕ)) →
         world_after table b w lines ≡ world_past b w
         (commands_among (map (command_within table b.line) lines)) }
 {}
 
-/// A law: every world that commands reach is sound. The forest is one; both ends of each live range stand in one tree, within their
-/// nodes' lengths, and the start not after the end; each iterator's reference stands inside its root; what walkers and registrations
-/// name is there, and so are both nodes of each static range, whatever its offsets (DOM Standard, "Boundary points", "Live ranges",
+/// States that every world that commands reach is sound. The forest is one; both ends of each live range stand in one tree, within their
+/// nodes' lengths, and the start not after the end. Each iterator's reference is inside its root. The nodes of walkers and registrations
+/// exist, and so do both nodes of each static range, whatever its offsets (DOM Standard, "Boundary points", "Live ranges",
 /// "Interface StaticRange", "Traversal").
 pub fn worlds_stay_sound()
     ensures { (b : Bounds) → (cs : List Command) → IsSound (world_past b first_world cs) }
 {}
 
-/// A law: a refused command leaves the world as it is, whatever the world (ours; the standard's exceptions come before the steps that
+/// States that a refused command leaves the world unchanged, whatever the world (ours; the standard's exceptions come before the steps that
 /// change anything).
 pub fn refused_commands_leave()
     ensures { (b : Bounds) → (w : World) → (c : Command) → is_refusal (answer b w c).reply ≡ true →
         (answer b w c).world ≡ w }
 {}
 
-/// A law: a refused command can be left out of a list of commands, and every other reply stays as it is; and so a line that is refused,
-/// by its form or by its command. Of the bytes of the input a refused line goes with its newline, and of the output its reply (ours).
+/// States that a refused command can be left out of a list of commands, and every other reply stays. So can a line that is refused, by
+/// its form or by its command: the input loses the line with its newline, the output its reply (ours).
 pub fn refused_commands_can_go()
     ensures commands { (b : Bounds) → (cs : List Command) → (c : Command) → (ds : List Command) →
         is_refusal (answer b (world_past b first_world cs) c).reply ≡ true →
@@ -98,7 +98,7 @@ pub fn refused_commands_can_go()
         (length (whole_lines front)) }
 {}
 
-/// A law: no command gives out more numbers than it asks for, and after any commands no kind of object has more numbers than the limit
+/// States that no command gives out more numbers than it asks for. After any commands no kind of object has more numbers than the limit
 /// (ours; the first world has a Document, whose number the limit must allow).
 pub fn numbers_stay_within()
     ensures as_asked { (b : Bounds) → (cs : List Command) → (c : Command) →
@@ -108,15 +108,15 @@ pub fn numbers_stay_within()
         AreAtMost (counts_of (world_past b first_world cs)) (of_each b.numbers) }
 {}
 
-/// A law: of no kind of object are numbers taken back, whatever the world: after any commands each count is at least what it was (ours).
+/// States that no number is taken back, whatever the world: no command makes the count of a kind smaller (ours).
 pub fn numbers_only_rise()
     ensures { (b : Bounds) → (w : World) → (cs : List Command) →
         AreAtMost (counts_of w) (counts_of (world_past b w cs)) }
 {}
 
-/// A law: what is gone stays gone, whatever the world and the commands. A node whose number was given out and that is not there is never
-/// there again, so that a node which was not there before has a number that was not given out before; and a live range, an iterator, a
-/// walker, a static range or an observer that was released stays released (ours; a node is gone once its tree is discarded).
+/// States that freed objects stay freed, whatever the world and the commands. A node whose number was given out and that is gone never
+/// returns. So a new node has a number that was not given out before. A live range, an iterator, a walker, a static range or an observer
+/// that was released stays released (ours; a node is gone once its tree is discarded).
 pub fn what_is_gone_stays_gone()
     ensures nodes { (b : Bounds) → (w : World) → (cs : List Command) → (n : ℕ) → n < w.made →
         (HasNode w.forest n → ⊥) →
@@ -141,8 +141,8 @@ pub fn what_is_gone_stays_gone()
         has_observer w.observing o ≡ false → has_observer (world_past b w cs).observing o ≡ false }
 {}
 
-/// A law: no number is given out twice, whatever the world. A number that a command answers as new is the next of its kind: as many were
-/// given out before it. So of two commands of one list that each answer a new number of one kind the later answers a greater one (ours).
+/// States that no number is given out twice, whatever the world. A new number is the next of its kind: it equals the count of numbers
+/// given out before. So if two commands of one list each reply with a new number of one kind, the later number is greater (ours).
 pub fn new_numbers_differ()
     ensures next { (b : Bounds) → (w : World) → (c : Command) → (kind : Numbered) → (n : ℕ) →
         made_by c ≡ Some kind →
@@ -154,11 +154,10 @@ pub fn new_numbers_differ()
         ≡ Done (Number m) → n < m }
 {}
 
-/// A law: each end of each live range stands where its marker stands. In the token texts of a world that commands reach a marker stands
-/// in the gap of each end; then each command of a list makes its edits on the texts, one command after another, and the texts are never
-/// looked up again in a world. Afterwards, for each live range and each of its two ends, the gap in which the marker stands is that
-/// end's gap, and a range that was released or never made has no marker; and without markers each node's tokens, from its open to its
-/// close, are those of the world. The live ranges are as the markers stand after each command of the list (DOM Standard, "Live ranges",
+/// States that each end of each live range is at its marker. In the token texts of a world that commands reach, each end's gap has a
+/// marker. Then each command of a list makes its edits on the texts, one command after another, and nothing is read from a world again.
+/// Afterwards the marker of each end of each live range is in that end's gap. A range that was released or never made has no marker.
+/// Without markers each node's tokens, from its open to its close, are those of the world. This holds after each command of the list (DOM Standard, "Live ranges",
 /// in the words of texts).
 pub fn ends_stay_with_their_markers()
     ensures gaps { (b : Bounds) → (before : List Command) → (cs : List Command) → (r : ℕ) →
@@ -176,8 +175,8 @@ pub fn ends_stay_with_their_markers()
         cs ≡ ranges_along b (world_past b first_world before) cs }
 {}
 
-/// A law: the text of a live range is the units of Texts that lie between its two markers, in the token text of its root. It holds in
-/// every sound world, and so in every world that commands reach, where it is what the range is answered to be as text (DOM Standard,
+/// States that the text of a live range is the units of Texts between its two markers, in the token text of its root. It holds in
+/// every sound world, and so in every world that commands reach, where it is the reply for the range's text (DOM Standard,
 /// "Interface Range", its stringification behavior, in the words of texts).
 pub fn range_text_is_what_lies_between()
     ensures text { (w : World) → (r : ℕ) → (root : ℕ) → (range : Range) → IsSound w →

@@ -1,4 +1,4 @@
-//! What a node holds, lent where it lies with no command: its names, its data, and its attributes by their place (DOM Standard,
+//! Borrowing a node's names, its data, and its attributes by their place, without a command (DOM Standard,
 //! "Interface CharacterData", "Interface Element").
 
 ghost use Rattle.std.specs.Prelude.{◌≡◌};
@@ -11,7 +11,7 @@ use dom_model::OwnError;
 use dom_tree::{NodeId, Tree};
 use dom_units::Units;
 
-/// The label of a node: its kind and its names.
+/// Borrows the label of a node: its kind and its names.
 pub(crate) fn label_of(tree: &Tree<Content>, node: NodeId) -> Result<&Label, OwnError>
     ensures { lent_whole (λ label. label.now) result ≡ label_in tree.now.forest node }
 {
@@ -21,7 +21,7 @@ pub(crate) fn label_of(tree: &Tree<Content>, node: NodeId) -> Result<&Label, Own
     Ok(tree.label(node))
 }
 
-/// The data of a node, where its kind has data.
+/// Borrows the data of a node, if its kind has data.
 pub(crate) fn data_of(tree: &Tree<Content>, node: NodeId) -> Result<Option<&[u16]>, OwnError>
     ensures { lent_as (λ units. units.now) result ≡ data_in tree.now.forest node }
 {
@@ -34,7 +34,7 @@ pub(crate) fn data_of(tree: &Tree<Content>, node: NodeId) -> Result<Option<&[u16
     Ok(Some(tree.body(node).text()))
 }
 
-/// The attribute of a node at a place, its name and its value.
+/// Borrows a node's attribute at a place, its name and its value.
 pub(crate) fn attribute_at(
     tree: &Tree<Content>,
     node: NodeId,

@@ -1,4 +1,4 @@
-//! What is read of a node with no command: what it is, and what stands beside, above and below it (DOM Standard, "Trees").
+//! Reading a node and its neighbours without a command (DOM Standard, "Trees").
 
 ghost use Rattle.std.specs.Prelude.{◌≡◌};
 ghost use Rattle.dom_model.specs.Forests.Forest.{children_of};
@@ -9,7 +9,7 @@ use dom_kinds::Kind;
 use dom_model::OwnError;
 use dom_tree::{Children, NodeId, Tree};
 
-/// A node: its kind and its node document, the nodes above, beside and below it, how many children it has, and its length.
+/// A node: its kind and node document, its parent, siblings and children, the number of children, and its length.
 #[derive(Clone, Copy, Debug, PartialEq, Eq)]
 pub struct Links {
     pub kind: Kind,
@@ -23,7 +23,7 @@ pub struct Links {
     pub length: usize,
 }
 
-/// What a node is, and what stands around it.
+/// Returns a node's kind and its neighbours.
 pub(crate) fn links_at(tree: &Tree<Content>, node: NodeId) -> Result<Links, OwnError>
     ensures { result ≡ links_in tree.now.forest node }
 {
@@ -43,7 +43,7 @@ pub(crate) fn links_at(tree: &Tree<Content>, node: NodeId) -> Result<Links, OwnE
     })
 }
 
-/// The first child of a node, where it has one.
+/// Returns the first child of a node, if any.
 pub(crate) fn first_child(tree: &Tree<Content>, node: NodeId) -> Result<Option<NodeId>, OwnError>
     ensures { result ≡ first_child_in tree.now.forest node }
 {
@@ -53,7 +53,7 @@ pub(crate) fn first_child(tree: &Tree<Content>, node: NodeId) -> Result<Option<N
     Ok(tree.first(node))
 }
 
-/// The last child of a node, where it has one.
+/// Returns the last child of a node, if any.
 pub(crate) fn last_child(tree: &Tree<Content>, node: NodeId) -> Result<Option<NodeId>, OwnError>
     ensures { result ≡ last_child_in tree.now.forest node }
 {
@@ -63,7 +63,7 @@ pub(crate) fn last_child(tree: &Tree<Content>, node: NodeId) -> Result<Option<No
     Ok(tree.last(node))
 }
 
-/// The child of a node at an index, where there is one.
+/// Returns the child of a node at an index, if any.
 pub(crate) fn child_at(
     tree: &Tree<Content>,
     node: NodeId,
@@ -77,7 +77,7 @@ pub(crate) fn child_at(
     Ok(tree.child_at(node, index))
 }
 
-// Lays the numbers of children over the front of a slice, as far as both go.
+// Writes the numbers of children over the front of a slice, as far as both reach.
 fn lay_over(children: Children<'_, Content>, into: &mut [u32])
     ensures { into.new ≡ laid_over children.entry into.old }
 {
@@ -91,7 +91,7 @@ fn lay_over(children: Children<'_, Content>, into: &mut [u32])
     }
 }
 
-/// Copies the numbers of the children of a node over the front of a slice, as far as there is room, and tells how many children there are.
+/// Copies the numbers of a node's children over the front of a slice, as far as there is room, and returns the number of children.
 pub(crate) fn copy_children(
     tree: &Tree<Content>,
     node: NodeId,

@@ -21,14 +21,14 @@ use dom_tree::NodeId;
 use dom_units::Units;
 use std::alloc::{AllocError, Global};
 
-/// The label of a Document.
+/// Returns the label of a Document.
 pub(crate) fn document_label() -> Label
     ensures { result ≡ document_label }
 {
     Label::nameless(Kind::Document)
 }
 
-// Why a document may not get a new node.
+// Returns why a document may not get a new node.
 fn refusal(world: &World, numbers: u64, document: NodeId) -> Option<Brief>
     ensures { option_map (λ reply. reply_view (reply_of reply)) result
         ≡ making_refusal world.now numbers document }
@@ -131,7 +131,7 @@ pub(crate) fn create_comment(
     Ok(Brief::Number(id.number()))
 }
 
-// Whether `?>` stands in the units, which would end a processing instruction.
+// Returns whether the units contain `?>`, which would end a processing instruction.
 fn closes_instruction(units: &[u16]) -> bool
     ensures { result ≡ closes_instruction units.now }
 {

@@ -19,7 +19,7 @@ use dom_observe::{ObserverId, Observers, RawOptions, Record, settle};
 use dom_tree::NodeId;
 use std::alloc::{AllocError, Global};
 
-/// Makes a mutation observer, with nothing to observe yet (`new MutationObserver()`).
+/// Makes a mutation observer without registrations (`new MutationObserver()`).
 pub(crate) fn create_observer(world: &mut World, numbers: u64) -> Result<Reply, AllocError>
     requires numbers { numbers ≤ 4294967295 }
     requires shown { IsShown world.old }
@@ -33,7 +33,7 @@ pub(crate) fn create_observer(world: &mut World, numbers: u64) -> Result<Reply, 
     Ok(Reply::Brief(Brief::Number(id.number())))
 }
 
-/// Lets an observer watch a node, in place of how it watched it before (`observe`).
+/// Registers an observer at a node, in place of its earlier registration there (`observe`).
 pub(crate) fn observe(
     world: &mut World,
     observer: ObserverId,
@@ -57,7 +57,7 @@ pub(crate) fn observe(
     }
 }
 
-/// Lets an observer watch nothing more, and drops the records that wait for it (`disconnect`).
+/// Removes all registrations of an observer, and drops its queued records (`disconnect`).
 pub(crate) fn disconnect(world: &mut World, observer: ObserverId) -> Reply
     requires shown { IsShown world.old }
     ensures step { (b : Bounds) → IsStep world.old world.new b (Disconnect observer) result }
@@ -69,7 +69,7 @@ pub(crate) fn disconnect(world: &mut World, observer: ObserverId) -> Reply
     Reply::Brief(Brief::Nothing)
 }
 
-/// Lets an observer go: it watches nothing more, is pending no more, and its number is not used again.
+/// Releases an observer: it has no registration, is no longer pending, and its number is not used again.
 pub(crate) fn release_observer(world: &mut World, observer: ObserverId) -> Reply
     requires shown { IsShown world.old }
     ensures step { (b : Bounds) → IsStep world.old world.new b (ReleaseObserver observer) result }
@@ -81,7 +81,7 @@ pub(crate) fn release_observer(world: &mut World, observer: ObserverId) -> Reply
     Reply::Brief(Brief::Nothing)
 }
 
-/// Takes the records that wait for an observer (`takeRecords`).
+/// Takes the queued records of an observer (`takeRecords`).
 pub(crate) fn take_records(world: &mut World, observer: ObserverId) -> Reply
     requires shown { IsShown world.old }
     ensures step { (b : Bounds) → IsStep world.old world.new b (TakeRecords observer) result }
@@ -92,7 +92,7 @@ pub(crate) fn take_records(world: &mut World, observer: ObserverId) -> Reply
     Reply::Done(Answer::Records(world.observers.take(observer)))
 }
 
-// Each observer with its records, which are moved.
+// Returns each observer with its records, which are moved.
 fn all_told(alloc: Global, all: Vec<(ObserverId, Vec<Record>)>) -> Result<Vec<Told>, AllocError>
     ensures { IfOk result (λ told. told.items ≡ told_of all.items) }
 {
@@ -103,7 +103,7 @@ fn all_told(alloc: Global, all: Vec<(ObserverId, Vec<Record>)>) -> Result<Vec<To
     Ok(told)
 }
 
-/// Tells each observer that waits its records, in the order in which they began to wait ("notify mutation observers").
+/// Notifies each pending observer with its records, in the order in which they became pending ("notify mutation observers").
 pub(crate) fn notify(world: &mut World, alloc: Global) -> Result<Reply, AllocError>
     requires shown { IsShown world.old }
     ensures step { IfOk result (λ reply. (b : Bounds) → IsStep world.old world.new b Notify reply) }
@@ -113,7 +113,7 @@ pub(crate) fn notify(world: &mut World, alloc: Global) -> Result<Reply, AllocErr
     Ok(Reply::Done(Answer::Notified(all_told(alloc, all)?)))
 }
 
-// The numbers of the observers that wait, in their order.
+// Returns the numbers of the pending observers, in their order.
 fn pending_numbers(observers: &Observers, alloc: Global) -> Result<Vec<u32>, AllocError>
     ensures { IfOk result (λ numbers. numbers.items ≡ observers.now.pending) }
 {
@@ -124,7 +124,7 @@ fn pending_numbers(observers: &Observers, alloc: Global) -> Result<Vec<u32>, All
     Ok(numbers)
 }
 
-/// The observers that wait to be told, in the order in which they began to wait.
+/// Returns the pending observers, in the order in which they became pending.
 pub(crate) fn pending(world: &World, alloc: Global) -> Result<Reply, AllocError>
     ensures step { IfOk result (λ reply. (b : Bounds) →
         IsStep world.now world.now b Pending reply) }
@@ -133,7 +133,7 @@ pub(crate) fn pending(world: &World, alloc: Global) -> Result<Reply, AllocError>
     Ok(Reply::Done(Answer::Numbers(numbers)))
 }
 
-/// Takes the observers that wait to be told: none of them waits any more, and each is to be told in this order (the first step of "notify mutation
+/// Takes the pending observers: none is pending afterwards, and each is to be notified in this order (the first step of "notify mutation
 /// observers").
 pub(crate) fn take_pending(world: &mut World, alloc: Global) -> Result<Reply, AllocError>
     requires shown { IsShown world.old }
@@ -142,13 +142,13 @@ pub(crate) fn take_pending(world: &mut World, alloc: Global) -> Result<Reply, Al
     ensures unchanged { OnErr result (world.new ≡ world.old) }
     ensures left { OnErr result (IsKept world.old world.new) }
 {
-    // the answer comes first, so that nothing is taken where there is no room for it
+    // room for the answer comes first, so that nothing is taken if memory is refused
     let numbers = pending_numbers(&world.observers, alloc)?;
     let _ = world.observers.take_pending()?;
     Ok(Reply::Done(Answer::Numbers(numbers)))
 }
 
-/// Tells an observer in its turn: takes the records that wait for it, and ends its transient registrations (the second step of "notify mutation
+/// Notifies an observer in its turn: takes its queued records, and removes its transient registrations (the second step of "notify mutation
 /// observers").
 pub(crate) fn tell_observer(world: &mut World, observer: ObserverId) -> Reply
     requires shown { IsShown world.old }

@@ -18,7 +18,7 @@ use dom_model::OwnError;
 use dom_tree::{NodeId, Tree};
 use std::alloc::{AllocError, Global};
 
-/// Tells where a node stands, and what it is.
+/// Returns a node's kind and its place in the tree.
 pub(crate) fn describe_node(world: &World, alloc: Global, node: NodeId) -> Result<Reply, AllocError>
     ensures { IfOk result (λ reply. (b : Bounds) →
         IsStep world.now world.now b (DescribeNode node) reply) }
@@ -38,7 +38,7 @@ pub(crate) fn describe_node(world: &World, alloc: Global, node: NodeId) -> Resul
     Ok(Reply::Done(Answer::NodeAt(boxed)))
 }
 
-// The numbers of the children of a node, in order.
+// Returns the numbers of a node's children, in order.
 fn child_numbers(
     tree: &Tree<Content>,
     alloc: Global,
@@ -54,7 +54,7 @@ fn child_numbers(
     Ok(numbers)
 }
 
-/// The children of a node, in order.
+/// Returns the children of a node, in order.
 pub(crate) fn children(world: &World, alloc: Global, node: NodeId) -> Result<Reply, AllocError>
     ensures { IfOk result (λ reply. (b : Bounds) →
         IsStep world.now world.now b (Children node) reply) }
@@ -66,7 +66,7 @@ pub(crate) fn children(world: &World, alloc: Global, node: NodeId) -> Result<Rep
     Ok(Reply::Done(Answer::Numbers(numbers)))
 }
 
-/// How many siblings stand before a node. Where that is not found near it, all of them are counted, so that it is known of each.
+/// Returns the number of siblings before a node. If no cached index is near, it counts all of them and caches each index.
 pub(crate) fn index(world: &mut World, node: NodeId) -> Reply
     ensures step { (b : Bounds) → IsStep world.old world.new b (Index node) result }
     ensures own { Tells world.old (Index node) result }
@@ -78,7 +78,7 @@ pub(crate) fn index(world: &mut World, node: NodeId) -> Reply
     Reply::Done(Answer::Count(world.tree.found_index(node)))
 }
 
-/// Finds the index of a node, so that what asks for it next has it at once: where it is not found near the node, all siblings are counted.
+/// Caches the index of a node for the next question. If no cached index is near, it counts all siblings.
 pub(crate) fn find_index(world: &mut World, node: NodeId)
     requires held { HasNode world.old.tree.forest node }
     ensures { world.new ≡ world.old }
@@ -86,7 +86,7 @@ pub(crate) fn find_index(world: &mut World, node: NodeId)
     let _ = world.tree.found_index(node);
 }
 
-/// The length of a node.
+/// Returns the length of a node.
 pub(crate) fn length(world: &World, node: NodeId) -> Reply
     ensures step { (b : Bounds) → IsStep world.now world.now b (Length node) result }
     ensures own { Tells world.now (Length node) result }
@@ -97,7 +97,7 @@ pub(crate) fn length(world: &World, node: NodeId) -> Reply
     Reply::Done(Answer::Count(world.tree.length(node)))
 }
 
-/// The root of a node.
+/// Returns the root of a node.
 pub(crate) fn root(world: &World, node: NodeId) -> Reply
     ensures step { (b : Bounds) → IsStep world.now world.now b (Root node) result }
     ensures own { Tells world.now (Root node) result }

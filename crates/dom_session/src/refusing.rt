@@ -1,4 +1,4 @@
-//! What stands in the way of a command, where groups of commands share it.
+//! Refusals that groups of commands share.
 
 ghost use Rattle.std.specs.Prelude.{◌≡◌, option_map};
 ghost use Rattle.dom_model.specs.Forests.Kinds.{is_kind};
@@ -12,7 +12,7 @@ use dom_kinds::{DomError, Kind};
 use dom_model::OwnError;
 use dom_tree::NodeId;
 
-/// Why a command on nodes of one kind may not act on a node.
+/// Returns why a command on nodes of one kind may not act on a node.
 pub(crate) fn kind_refusal(world: &World, node: NodeId, kind: Kind) -> Option<Reply>
     ensures { option_map reply_view result ≡ kind_refusal (is_kind kind) world.now node }
 {

@@ -14,7 +14,7 @@ use std::alloc::AllocError;
 use std::cmp::Ordering;
 use std::marker::Model;
 
-/// A node, where it stands: its node document, what it is, and the nodes beside and above it.
+/// A node and its place: its node document, its label, its parent and its siblings.
 #[derive(Drop)]
 pub struct Description {
     pub document: NodeId,
@@ -32,7 +32,7 @@ impl Model for Description {
     ghost view = { λ d. record { document = d.document; label = d.label; next = d.next; parent = d.parent; previous = d.previous } };
 }
 
-/// A row of a printed tree: how deep the node stands below the one asked for, and what it is.
+/// A row of a printed tree: the node's depth below the printed root, and its label.
 #[derive(Drop)]
 pub struct TreeRow {
     pub depth: usize,
@@ -49,7 +49,7 @@ impl Model for TreeRow {
     ghost view = { λ r. record { depth = r.depth; number = r.number; label = r.label; body = r.body } };
 }
 
-/// An observer, and the records that it is told.
+/// An observer, and the records that it receives.
 #[derive(Drop)]
 pub struct Told {
     pub observer: ObserverId,
@@ -64,24 +64,24 @@ impl Model for Told {
     ghost view = { λ t. record { observer = t.observer; records = t.records.items } };
 }
 
-/// An answer that is none of a `Brief`, one variant for each shape.
+/// An answer that a `Brief` cannot have, one variant for each shape.
 #[derive(Drop)]
 pub enum Answer {
     /// An index or a length.
     Count(usize),
     /// The numbers of objects, in order.
     Numbers(Vec<u32>),
-    /// A yes or a no.
+    /// True or false.
     Flag(bool),
-    /// How one place stands to another.
+    /// The relative position of two places.
     Order(Ordering),
     /// A text.
     Units(Units),
-    /// A text, where there is one.
+    /// A text, if there is one.
     MaybeUnits(Option<Units>),
     /// Names, in order.
     Names(Vec<String>),
-    /// A node, where it stands. It lies apart, so that other answers are small.
+    /// A node and its place. It is boxed, so that other answers are small.
     NodeAt(Box<Description>),
     /// A printed tree, in tree order.
     Rows(Vec<TreeRow>),
@@ -89,17 +89,17 @@ pub enum Answer {
     Ends(Point, Point),
     /// The start and the end of a static range, and whether it is valid.
     StaticEnds(Point, Point, bool),
-    /// The root and the reference of an iterator, and whether it stands before the reference.
+    /// The root and the reference of an iterator, and whether its pointer is before the reference.
     IteratorAt(NodeId, NodeId, bool),
     /// The root and the current node of a walker.
     WalkerAt(NodeId, NodeId),
     /// The records that were taken.
     Records(Vec<Record>),
-    /// Who was told what.
+    /// The notified observers, each with its records.
     Notified(Vec<Told>),
 }
 
-/// What a session says to a command.
+/// The reply to a command.
 #[derive(Drop)]
 pub enum Reply {
     /// A small answer, or a refusal.
@@ -107,7 +107,7 @@ pub enum Reply {
     Done(Answer),
 }
 
-/// What a command answers where its call was refused: the name of the exception. Want of memory is no answer.
+/// Returns the reply to a refused call: the name of the exception. Out of memory is no reply.
 pub(crate) fn reply_to(refusal: Refusal) -> Result<Reply, AllocError>
     ensures { result ≡ reply_to refusal }
 {

@@ -43,7 +43,7 @@ pub struct Limits {
     pub line: usize,
 }
 
-/// Memory was wanting: the session answers nothing more.
+/// Out of memory: the session answers no further command.
 #[derive(Clone, Copy, Debug, PartialEq, Eq)]
 pub struct Ended;
 
@@ -78,7 +78,7 @@ impl Model for Session {
 }
 
 impl Session {
-    /// A session whose node 0 is a Document.
+    /// Returns a session whose node 0 is a Document.
     pub fn new(alloc: Global, limits: Limits) -> Result<Session, AllocError>
         requires numbers { (1 ≤ limits.numbers) × (limits.numbers ≤ 4294967295) }
         requires line { 1 ≤ limits.line }
@@ -95,9 +95,9 @@ impl Session {
         })
     }
 
-    /// Answers a command. A growth that is refused ends the session: that call and every later one answer `Ended`.
+    /// Applies a command, and returns its reply. A refused growth ends the session: that call and every later one return `Ended`.
     ///
-    /// What was held is then held still, and can be read: each node with its label.
+    /// The session still holds its nodes, and they can be read, each with its label.
     pub fn apply(&mut self, command: Command) -> Result<Reply, Ended>
         // For every world that the session stands for, the reply is that world's answer, and the session stands for its next world.
         ensures answers { IfOk result
@@ -123,7 +123,7 @@ impl Session {
         }
     }
 
-    /// Answers a command that makes a node as `apply` does, with less to hand on.
+    /// Applies a command that makes a node as `apply` does, with fewer arguments to pass.
     pub fn make(&mut self, command: Making) -> Result<Brief, Ended>
         ensures answers { IfOk result
             (λ reply. (w : PlainWorld) → StandsFor self.old w →
@@ -146,7 +146,7 @@ impl Session {
         Ok(reply)
     }
 
-    /// Makes an Element as `apply` does, of a name that is lent.
+    /// Makes an Element as `apply` does, from a borrowed name.
     pub fn create_element(&mut self, document: NodeId, name: &str) -> Result<Brief, Ended>
         ensures answers { IfOk result
             (λ reply. (w : PlainWorld) → StandsFor self.old w →
@@ -175,7 +175,7 @@ impl Session {
         Ok(reply)
     }
 
-    /// Makes a Text as `apply` does, with less to hand on.
+    /// Makes a Text as `apply` does, with fewer arguments to pass.
     pub fn create_text(&mut self, document: NodeId, text: Units) -> Result<Brief, Ended>
         ensures answers { IfOk result
             (λ reply. (w : PlainWorld) → StandsFor self.old w →
@@ -204,7 +204,7 @@ impl Session {
         Ok(reply)
     }
 
-    /// Answers a command that changes where nodes stand as `apply` does, with less to hand on.
+    /// Applies an edit of the tree as `apply` does, with fewer arguments to pass.
     #[inline(always)]
     pub fn edit(&mut self, command: Editing) -> Result<Brief, Ended>
         ensures answers { IfOk result
@@ -228,7 +228,7 @@ impl Session {
         Ok(reply)
     }
 
-    /// Moves an iterator on as `apply` does, with less to hand on.
+    /// Moves an iterator on as `apply` does, with fewer arguments to pass.
     pub fn next_node(&mut self, iterator: IteratorId) -> Result<Brief, Ended>
         ensures answers { IfOk result
             (λ reply. (w : PlainWorld) → StandsFor self.old w →
@@ -247,7 +247,7 @@ impl Session {
         Ok(next_node(&mut self.world, iterator))
     }
 
-    /// Moves an iterator back as `apply` does, with less to hand on.
+    /// Moves an iterator back as `apply` does, with fewer arguments to pass.
     pub fn previous_node(&mut self, iterator: IteratorId) -> Result<Brief, Ended>
         ensures answers { IfOk result
             (λ reply. (w : PlainWorld) → StandsFor self.old w →
@@ -266,7 +266,7 @@ impl Session {
         Ok(previous_node(&mut self.world, iterator))
     }
 
-    /// Moves a walker as `apply` does, with less to hand on.
+    /// Moves a walker as `apply` does, with fewer arguments to pass.
     pub fn walk(&mut self, walker: WalkerId, direction: Move) -> Result<Brief, Ended>
         ensures answers { IfOk result
             (λ reply. (w : PlainWorld) → StandsFor self.old w →
@@ -285,8 +285,8 @@ impl Session {
         Ok(walk(&mut self.world, walker, direction))
     }
 
-    /// Tells whether an element has an attribute as `apply` does, of a name that is lent. No memory
-    /// is taken, and the session stays.
+    /// Returns whether an element has an attribute as `apply` does, from a borrowed name. It takes no memory,
+    /// and the session stays.
     pub fn has_attribute(&self, element: NodeId, name: &str) -> Result<Reply, Ended>
         ensures answers { IfOk result
             (λ reply. (w : PlainWorld) → StandsFor self.now w →
@@ -300,7 +300,7 @@ impl Session {
         Ok(has_attribute(&self.world, element, name))
     }
 
-    /// Answers a question that takes no memory, as `apply` does. A session that has ended answers of what it holds.
+    /// Answers a question that takes no memory, as `apply` does. After its end a session answers from the world it still holds.
     pub fn read(&mut self, question: Reading) -> Reply
         ensures answers { (w : PlainWorld) → StandsFor self.old w →
             IsAnswered result w self.old self.new (reading_view question) }
@@ -311,8 +311,8 @@ impl Session {
         reading::read(&mut self.world, question)
     }
 
-    /// Tells whether an element has an attribute of a name that is lent, as `apply` does. A session that has ended answers of what it
-    /// holds.
+    /// Returns whether an element has an attribute, from a borrowed name, as `apply` does. After its end a session answers from the
+    /// world it still holds.
     pub fn read_attribute(&self, element: NodeId, name: &str) -> Reply
         ensures answers { (w : PlainWorld) → StandsFor self.now w →
             IsAnswered result w self.now self.now (HasAttribute element name.now) }
@@ -322,9 +322,9 @@ impl Session {
         has_attribute(&self.world, element, name)
     }
 
-    /// What a node is, and what stands around it, in constant time. No command is applied, and no memory taken.
+    /// Returns a node's kind and its neighbours, in constant time. It applies no command and takes no memory.
     ///
-    /// As each call that reads, it answers of a session that has ended too: of what the last call left.
+    /// Like each call that reads, it also answers after the session's end, from the world that the last call left.
     pub fn links(&self, node: NodeId) -> Result<Links, OwnError>
         ensures shown { (w : PlainWorld) → StandsFor self.now w → result ≡ links_in w.forest node }
         ensures own { result ≡ links_in self.now.world.tree.forest node }
@@ -332,7 +332,7 @@ impl Session {
         links::links_at(&self.world.tree, node)
     }
 
-    /// The first child of a node, where it has one, in constant time.
+    /// Returns the first child of a node, if any, in constant time.
     pub fn first_child(&self, node: NodeId) -> Result<Option<NodeId>, OwnError>
         ensures shown { (w : PlainWorld) → StandsFor self.now w →
             result ≡ first_child_in w.forest node }
@@ -341,7 +341,7 @@ impl Session {
         links::first_child(&self.world.tree, node)
     }
 
-    /// The last child of a node, where it has one, in constant time.
+    /// Returns the last child of a node, if any, in constant time.
     pub fn last_child(&self, node: NodeId) -> Result<Option<NodeId>, OwnError>
         ensures shown { (w : PlainWorld) → StandsFor self.now w →
             result ≡ last_child_in w.forest node }
@@ -350,7 +350,7 @@ impl Session {
         links::last_child(&self.world.tree, node)
     }
 
-    /// The child of a node at an index, where there is one. It goes there from the nearer end.
+    /// Returns the child of a node at an index, if any. It walks from the nearer end.
     pub fn child_at(&self, node: NodeId, index: usize) -> Result<Option<NodeId>, OwnError>
         ensures shown { (w : PlainWorld) → StandsFor self.now w →
             result ≡ child_in index w.forest node }
@@ -359,8 +359,8 @@ impl Session {
         links::child_at(&self.world.tree, node, index)
     }
 
-    /// Copies the numbers of the children of a node over the front of a slice, as far as there is room, and tells how many children
-    /// there are.
+    /// Copies the numbers of a node's children over the front of a slice, as far as there is room, and returns the number of
+    /// children.
     pub fn copy_children(&self, node: NodeId, into: &mut [u32]) -> Result<usize, OwnError>
         ensures count { (w : PlainWorld) → StandsFor self.now w → result ≡ count_in w.forest node }
         ensures copied { (w : PlainWorld) → StandsFor self.now w →
@@ -372,7 +372,7 @@ impl Session {
         links::copy_children(&self.world.tree, node, into)
     }
 
-    /// The label of a node, lent where it lies: its kind and its names.
+    /// Borrows the label of a node: its kind and its names.
     pub fn label_of(&self, node: NodeId) -> Result<&Label, OwnError>
         ensures shown { (w : PlainWorld) → StandsFor self.now w →
             lent_whole (λ label. label.now) result ≡ label_in w.forest node }
@@ -382,7 +382,7 @@ impl Session {
         lending::label_of(&self.world.tree, node)
     }
 
-    /// The data of a node, lent where it lies; none where its kind has no data.
+    /// Borrows the data of a node; none if its kind has no data.
     pub fn data_of(&self, node: NodeId) -> Result<Option<&[u16]>, OwnError>
         ensures shown { (w : PlainWorld) → StandsFor self.now w →
             lent_as (λ units. units.now) result ≡ data_in w.forest node }
@@ -392,7 +392,7 @@ impl Session {
         lending::data_of(&self.world.tree, node)
     }
 
-    /// The attribute of a node at a place, its name and its value, lent where they lie; none past the last.
+    /// Borrows a node's attribute at a place, its name and its value; none past the last.
     pub fn attribute_at(
         &self,
         node: NodeId,
@@ -406,7 +406,7 @@ impl Session {
         lending::attribute_at(&self.world.tree, node, index)
     }
 
-    /// How many there are of each kind of object, in constant time. No command is applied, and no memory taken.
+    /// Returns the number of objects of each kind, in constant time. It applies no command and takes no memory.
     pub fn in_use(&self) -> Counts
         ensures shown { (w : PlainWorld) → StandsFor self.now w → result ≡ in_use_of w }
         ensures own { result ≡ in_use_in self.now.world }

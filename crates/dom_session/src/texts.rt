@@ -22,7 +22,7 @@ use dom_tree::NodeId;
 use dom_units::Units;
 use std::alloc::{AllocError, Global};
 
-// Why a node has no data.
+// Returns why a node has no data.
 fn refusal(world: &World, node: NodeId) -> Option<Reply>
     ensures { option_map reply_view result ≡ kind_refusal is_character_data world.now node }
 {
@@ -35,7 +35,7 @@ fn refusal(world: &World, node: NodeId) -> Option<Reply>
     None
 }
 
-/// The data of a node.
+/// Returns the data of a node.
 pub(crate) fn data(world: &World, alloc: Global, node: NodeId) -> Result<Reply, AllocError>
     requires shown { IsShown world.now }
     ensures { IfOk result (λ reply. (b : Bounds) →
@@ -48,7 +48,7 @@ pub(crate) fn data(world: &World, alloc: Global, node: NodeId) -> Result<Reply, 
     Ok(Reply::Done(Answer::Units(text)))
 }
 
-/// Puts a text in place of all data of a node.
+/// Replaces all data of a node by a text.
 pub(crate) fn set_data(
     world: &mut World,
     alloc: Global,
@@ -67,7 +67,7 @@ pub(crate) fn set_data(
     Ok(Reply::Brief(Brief::Nothing))
 }
 
-/// Puts a text in place of so many units from an offset on.
+/// Replaces a number of units from an offset on by a text.
 pub(crate) fn replace_data(
     world: &mut World,
     alloc: Global,
@@ -90,7 +90,7 @@ pub(crate) fn replace_data(
     }
 }
 
-/// Puts a text behind the data of a node.
+/// Appends a text to the data of a node.
 pub(crate) fn append_data(
     world: &mut World,
     alloc: Global,
@@ -109,7 +109,7 @@ pub(crate) fn append_data(
     replace_data(world, alloc, node, end, 0, text)
 }
 
-/// Puts a text into the data of a node, at an offset.
+/// Inserts a text into the data of a node, at an offset.
 pub(crate) fn insert_data(
     world: &mut World,
     alloc: Global,
@@ -125,7 +125,7 @@ pub(crate) fn insert_data(
     replace_data(world, alloc, node, offset as usize, 0, text)
 }
 
-/// Takes so many units out of the data of a node, from an offset on.
+/// Deletes a number of units of a node's data, from an offset on.
 pub(crate) fn delete_data(
     world: &mut World,
     alloc: Global,
@@ -141,7 +141,7 @@ pub(crate) fn delete_data(
     replace_data(world, alloc, node, offset as usize, count as usize, &[])
 }
 
-/// So many units of the data of a node, from an offset on.
+/// Returns a number of units of a node's data, from an offset on.
 pub(crate) fn substring_data(
     world: &World,
     alloc: Global,
@@ -162,7 +162,7 @@ pub(crate) fn substring_data(
     }
 }
 
-/// The text in a node; none in a Document and a doctype.
+/// Returns the text in a node; none for a Document and a doctype.
 pub(crate) fn text_content(world: &World, alloc: Global, node: NodeId) -> Result<Reply, AllocError>
     requires shown { IsShown world.now }
     ensures { IfOk result (λ reply. (b : Bounds) →
@@ -175,7 +175,7 @@ pub(crate) fn text_content(world: &World, alloc: Global, node: NodeId) -> Result
     Ok(Reply::Done(Answer::MaybeUnits(text)))
 }
 
-/// Makes a text the data of a node, or the one Text below it.
+/// Sets the data of a node to a text, or makes the text its only child.
 pub(crate) fn set_text_content(
     world: &mut World,
     numbers: u64,
@@ -199,7 +199,7 @@ pub(crate) fn set_text_content(
     Ok(Reply::Brief(Brief::Nothing))
 }
 
-/// Splits a Text at an offset, and answers the new one.
+/// Splits a Text at an offset, and returns the new one.
 pub(crate) fn split_text(
     world: &mut World,
     numbers: u64,
@@ -225,7 +225,7 @@ pub(crate) fn split_text(
     }
 }
 
-/// Joins Texts below a node that stand side by side, and takes empty ones out.
+/// Joins adjacent Texts below a node, and removes empty ones.
 pub(crate) fn normalize(world: &mut World, alloc: Global, node: NodeId) -> Result<Reply, AllocError>
     requires shown { IsShown world.old }
     ensures step { IfOk result (λ reply. (b : Bounds) →

@@ -9,7 +9,7 @@ ghost use Rattle.dom_tree.specs.Spots.{node_at};
 
 use dom_tree::{At, NodeId, Tree};
 
-// The node that precedes in tree order, among the inclusive descendants of `top`.
+// Returns the node that precedes in tree order, among the inclusive descendants of `top`.
 pub(crate) fn previous_inside<'a, X>(node: &At<'a, X>, top: NodeId) -> Option<At<'a, X>>
     requires { among top (ancestors node.now.node node.now.tree.forest) ≡ true }
     ensures tree { ForSome result (λ a. a.tree ≡ node.now.tree) }
@@ -26,7 +26,7 @@ pub(crate) fn previous_inside<'a, X>(node: &At<'a, X>, top: NodeId) -> Option<At
     }
 }
 
-// The node that follows all inclusive descendants of `node` in tree order, among those of `top`.
+// Returns the node that follows all inclusive descendants of `node` in tree order, among those of `top`.
 pub(crate) fn past_inside<X>(tree: &Tree<X>, top: NodeId, node: NodeId) -> Option<NodeId>
     requires held { HasNode tree.now.forest node }
     requires under { among top (ancestors node tree.now.forest) ≡ true }
@@ -44,8 +44,7 @@ pub(crate) fn past_inside<X>(tree: &Tree<X>, top: NodeId, node: NodeId) -> Optio
     None
 }
 
-// Whether at most `few` nodes stand inside `top`. It counts no further. Only the time that something takes hangs on the answer, so no clause
-// says it.
+// Returns whether `top` has at most `few` descendants, and counts no further. Only running time depends on the answer, so no clause says it.
 pub(crate) fn has_few_inside<X>(tree: &Tree<X>, top: NodeId, few: usize) -> bool
     requires { HasNode tree.now.forest top }
 {

@@ -49,7 +49,7 @@ impl Standing for NodeIterator {
     }
 }
 
-// The first accepted node that follows `node` inside the root.
+// Returns the first accepted node that follows `node` inside the root.
 fn next_accepted<X>(tree: &Tree<X>, filter: &Judge, root: NodeId, node: NodeId) -> Option<NodeId>
     requires held { HasNode tree.now.forest node }
     requires under { among root (ancestors node tree.now.forest) ≡ true }
@@ -67,7 +67,7 @@ fn next_accepted<X>(tree: &Tree<X>, filter: &Judge, root: NodeId, node: NodeId) 
     None
 }
 
-// The first accepted node that precedes `node` inside the root, the nearest first.
+// Returns the nearest accepted node that precedes `node` inside the root.
 fn previous_accepted<X>(
     tree: &Tree<X>,
     filter: &Judge,
@@ -91,7 +91,7 @@ fn previous_accepted<X>(
 }
 
 impl NodeIterator {
-    // To the next node that the filter accepts, where there is one.
+    // Moves to the next node that the filter accepts, if there is one.
     pub fn next<X>(&mut self, tree: &Tree<X>) -> Option<NodeId>
         requires { StandsInside tree.now.forest self.old }
         ensures found { result ≡ next_found tree.now.forest self.old }
@@ -103,7 +103,7 @@ impl NodeIterator {
         Some(found)
     }
 
-    // To the previous node that the filter accepts, where there is one.
+    // Moves to the previous node that the filter accepts, if there is one.
     pub fn previous<X>(&mut self, tree: &Tree<X>) -> Option<NodeId>
         requires { StandsInside tree.now.forest self.old }
         ensures found { result ≡ previous_found tree.now.forest self.old }
@@ -115,7 +115,7 @@ impl NodeIterator {
         Some(found)
     }
 
-    // The first accepted node from the pointer on.
+    // Returns the first accepted node from the pointer on.
     fn found_next<X>(&self, tree: &Tree<X>) -> Option<NodeId>
         requires { StandsInside tree.now.forest self.now }
         ensures { result ≡ next_found tree.now.forest self.now }
@@ -127,7 +127,7 @@ impl NodeIterator {
         next_accepted(tree, &self.filter, self.root, self.reference)
     }
 
-    // The first accepted node from the pointer back.
+    // Returns the first accepted node from the pointer back.
     fn found_previous<X>(&self, tree: &Tree<X>) -> Option<NodeId>
         requires { StandsInside tree.now.forest self.now }
         ensures { result ≡ previous_found tree.now.forest self.now }
@@ -139,8 +139,8 @@ impl NodeIterator {
         previous_accepted(tree, &self.filter, self.root, self.reference)
     }
 
-    // Before a node is removed: a reference inside it steps off, on where the pointer is before it, or else back. What is found for the root
-    // is answered, or else what was found last.
+    // Runs the pre-removing steps: moves a reference inside the removed node on if the pointer is before it, or else back. Returns the exit found for
+    // the root, or the last one.
     pub fn removing<X>(&mut self, tree: &Tree<X>, node: NodeId, last: Option<Exit>) -> Option<Exit>
         requires held { HasNode tree.now.forest node }
         requires found { ForSome last (IsExit tree.now.forest node) }
@@ -155,7 +155,7 @@ impl NodeIterator {
         }
     }
 
-    // The same of a reference at `here`, which is inside the node. One at another node stays, and is not asked where that is.
+    // Does so for a reference known to be at `here` inside the removed node. A reference elsewhere stays.
     pub fn removing_at<X>(
         &mut self,
         tree: &Tree<X>,
@@ -176,7 +176,7 @@ impl NodeIterator {
         }
     }
 
-    // The same of a reference inside the node.
+    // Does so for a reference known to be inside the removed node.
     fn leave<X>(&mut self, tree: &Tree<X>, node: NodeId, last: Option<Exit>) -> Option<Exit>
         requires held { HasNode tree.now.forest node }
         requires inside { among self.old.reference (inclusive_descendants tree.now.forest node)
@@ -190,7 +190,7 @@ impl NodeIterator {
         Some(exit)
     }
 
-    // A reference inside the node goes.
+    // Moves a reference that is inside the removed node.
     fn step_off(&mut self, exit: &Exit)
         ensures { self.new ≡ gone_by exit.now self.old }
     {

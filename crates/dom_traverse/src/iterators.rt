@@ -1,4 +1,4 @@
-//! The node iterators of a session, by number (DOM Standard, "Interface NodeIterator").
+//! The node iterators of a session (DOM Standard, "Interface NodeIterator").
 
 ghost use Rattle.std.specs.Prelude.{◌≡◌, ℕ, ◌<◌, [], ◌∷◌, ◌++◌, length, count_by, Some, IsSome, is_some, IfSome, IfOk, OnOk, OnErr};
 ghost use Rattle.std.specs.List.{list_any, flat_map};
@@ -24,13 +24,13 @@ use std::marker::Model;
 #[derive(Clone, Copy, Debug, PartialEq, Eq, Hash, Drop)]
 pub struct OfIterator;
 
-/// The number by which callers name an iterator: the first that is made has 0, and no number is used again.
+/// The number of an iterator. The first is 0, and no number is reused.
 pub type IteratorId = Id<OfIterator>;
 
 /// Node iterators, each over the inclusive descendants of its root.
 ///
-/// A number leads to a slot for as long as its iterator is not released. Where one is released the iterator in the last slot comes into its
-/// slot, so memory is kept for no more iterators than were there at once.
+/// A live number leads to a slot. If an iterator is released, the one in the last slot moves into its slot, so memory is kept for no more iterators
+/// than were live at once.
 #[derive(Drop)]
 pub struct NodeIterators {
     // each stands at its reference
@@ -47,7 +47,7 @@ impl Model for NodeIterators {
 }
 
 impl NodeIterators {
-    /// No iterators.
+    /// Returns a table without iterators.
     pub fn new(alloc: Global) -> NodeIterators
         ensures { result ≡ [] }
     {
@@ -56,7 +56,7 @@ impl NodeIterators {
         }
     }
 
-    /// Makes an iterator that stands before its root (`createNodeIterator`).
+    /// Makes an iterator before its root (`createNodeIterator`).
     pub fn make(&mut self, root: NodeId, filter: Filter) -> Result<IteratorId, AllocError>
         requires room { length self.old < 4294967295 }
         ensures number { IfOk result (λ id. id ≡ length self.old) }
@@ -73,28 +73,28 @@ impl NodeIterators {
         Ok(IteratorId::new(number))
     }
 
-    /// How many iterators were ever made.
+    /// Returns how many iterators were ever made.
     pub fn made(&self) -> u64
         ensures { result ≡ length self.now }
     {
         self.located.made()
     }
 
-    /// How many iterators there are, without those that were released, in constant time.
+    /// Returns the number of live iterators, in constant time.
     pub fn count(&self) -> usize
         ensures { result ≡ count_by is_some self.now }
     {
         self.located.count()
     }
 
-    /// Whether there is such an iterator, and it was not released.
+    /// Returns whether a number is that of a live iterator.
     pub fn holds(&self, id: IteratorId) -> bool
         ensures { result ≡ is_some (iterator_in self.now id) }
     {
         self.located.holds(id.number())
     }
 
-    /// `root`, `referenceNode` and `pointerBeforeReferenceNode`.
+    /// Returns `root`, `referenceNode` and `pointerBeforeReferenceNode`.
     pub fn state(&self, id: IteratorId) -> (NodeId, NodeId, bool)
         requires { IsSome (iterator_in self.now id) }
         ensures { IfSome (iterator_in self.now id) (λ i. result ≡ (i.root, i.reference, i.before)) }
@@ -103,7 +103,7 @@ impl NodeIterators {
         (iterator.root, iterator.reference, iterator.before)
     }
 
-    /// `nextNode()`.
+    /// Runs `nextNode()`.
     pub fn next<X>(&mut self, tree: &Tree<X>, id: IteratorId) -> Option<NodeId>
         requires held { IsSome (iterator_in self.old id) }
         requires inside { ForSome (iterator_in self.old id) (StandsInside tree.now.forest) }
@@ -119,7 +119,7 @@ impl NodeIterators {
         found
     }
 
-    /// `previousNode()`.
+    /// Runs `previousNode()`.
     pub fn previous<X>(&mut self, tree: &Tree<X>, id: IteratorId) -> Option<NodeId>
         requires held { IsSome (iterator_in self.old id) }
         requires inside { ForSome (iterator_in self.old id) (StandsInside tree.now.forest) }
@@ -135,7 +135,7 @@ impl NodeIterators {
         found
     }
 
-    /// Releases an iterator: no removal moves it any more, and it names no node. It takes no memory.
+    /// Releases an iterator. It refers to no node any more. It takes no memory.
     pub fn release(&mut self, id: IteratorId)
         requires { IsSome (iterator_in self.old id) }
         ensures { self.new ≡ released id self.old }
@@ -143,9 +143,9 @@ impl NodeIterators {
         self.located.release(id.number());
     }
 
-    /// The pre-removing steps of every iterator, before a node is taken from its parent.
+    /// Runs the pre-removing steps of every iterator, before a node is removed from its parent.
     ///
-    /// It walks the nodes inside, or climbs from each reference where that takes fewer steps.
+    /// Walks the subtree, or climbs from each reference if that takes fewer steps.
     pub fn removing<X>(&mut self, tree: &Tree<X>, node: NodeId)
         requires { HasNode tree.now.forest node }
         ensures { self.new ≡ pre_removed_all tree.now.forest node self.old }
@@ -154,19 +154,18 @@ impl NodeIterators {
         removing(&mut located.items, &mut located.whereabouts, tree, node);
     }
 
-    /// Lets `refers` find by the nodes inside what stands there: each iterator that stepped is put at its reference.
+    /// Updates the table of iterators by node, which `refers` uses.
     ///
-    /// It takes no memory, and one move for each iterator that stepped since the last call or that a removal left waiting, however often it
-    /// stepped.
+    /// Takes no memory, and one move for each iterator that stepped or that a removal moved since the last call, however often.
     pub fn catch_up(&mut self)
         ensures { self.new ≡ self.old }
     {
         self.located.catch_up();
     }
 
-    /// Whether some iterator has its root or its reference among the inclusive descendants of a node.
+    /// Returns whether an iterator has its root or reference in a subtree.
     ///
-    /// It walks the nodes inside, or climbs from each iterator where that takes fewer steps, or where one has yet to be put at its reference.
+    /// Walks the subtree, or climbs from each iterator if that takes fewer steps, or if the table is not up to date.
     pub fn refers<X>(&self, tree: &Tree<X>, top: NodeId) -> bool
         requires { HasNode tree.now.forest top }
         ensures { result ≡ list_any (λ m. among m (inclusive_descendants tree.now.forest top))

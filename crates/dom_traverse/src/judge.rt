@@ -1,4 +1,4 @@
-//! A filter whose rules are found by name (DOM Standard, "Interface NodeFilter").
+//! Filters with their rules in a map by name (DOM Standard, "Interface NodeFilter").
 
 ghost use Rattle.std.specs.Prelude.{◌≡◌, ℕ, List, string_bytes, bytes_eq, if◌then◌else◌, IfOk, OnOk};
 ghost use Rattle.dom_model.specs.declared.Verdict.{Verdict as AVerdict};
@@ -14,7 +14,7 @@ use std::alloc::{AllocError, Global};
 use std::collections::BTreeMap;
 use std::marker::Model;
 
-// A filter, with the verdict of the first rule for each name and that on all other names. A map in the order of the names has no worst case.
+// A filter, with the verdict of the first rule for each name, and that for all other names. An ordered map has no worst case.
 #[derive(Drop)]
 pub struct Judge {
     filter: Filter,
@@ -34,7 +34,7 @@ impl Model for Judge {
     ghost invariant = { λ j. AreRulesByName j.filter.rules j.verdicts j.others };
 }
 
-// Puts a rule among the verdicts, where none is known for its name.
+// Adds a rule's verdict, unless its name has one.
 fn note(verdicts: &mut BTreeMap<String, Verdict>, rule: &Rule) -> Result<(), AllocError>
     ensures { OnOk result ((name : List ℕ) (others : AVerdict) →
         known_or verdicts.new others name ≡ known_or verdicts.old (if bytes_eq rule.now.name name
@@ -48,7 +48,7 @@ fn note(verdicts: &mut BTreeMap<String, Verdict>, rule: &Rule) -> Result<(), All
     Ok(())
 }
 
-// The verdicts of rules by name, and that on all other names: of the first rule for every name, or none.
+// Returns the verdicts of rules by name, and that for all other names: of the first rule for every name, or none.
 fn by_name(
     alloc: Global,
     rules: &[Rule],
@@ -66,7 +66,7 @@ fn by_name(
 }
 
 impl Judge {
-    // The same filter, with its rules by name.
+    // Returns the filter with its rules by name.
     pub fn new(alloc: Global, filter: Filter) -> Result<Judge, AllocError>
         ensures { IfOk result (λ judge. judge ≡ filter) }
     {
@@ -78,7 +78,7 @@ impl Judge {
         })
     }
 
-    // What the filter says of a node.
+    // Returns the filter's verdict on a node.
     pub fn judge<X>(&self, node: &At<'_, X>) -> Verdict
         ensures { result ≡ verdict_on node.now.tree.forest self.now node.now.node }
     {
@@ -91,14 +91,14 @@ impl Judge {
         }
     }
 
-    // Whether the filter accepts a node.
+    // Returns whether the filter accepts a node.
     pub fn accepts<X>(&self, node: &At<'_, X>) -> bool
         ensures { result ≡ accepts node.now.tree.forest self.now node.now.node }
     {
         self.judge(node) == Verdict::Accept
     }
 
-    // Whether the filter accepts the node of a number.
+    // Returns whether the filter accepts the node of a number.
     pub fn accepts_number<X>(&self, tree: &Tree<X>, node: NodeId) -> bool
         requires { HasNode tree.now.forest node }
         ensures { result ≡ accepts tree.now.forest self.now node }
@@ -106,21 +106,21 @@ impl Judge {
         self.accepts(&tree.at(node))
     }
 
-    // Whether the filter rejects a node.
+    // Returns whether the filter rejects a node.
     pub fn rejects<X>(&self, node: &At<'_, X>) -> bool
         ensures { result ≡ rejects node.now.tree.forest self.now node.now.node }
     {
         self.judge(node) == Verdict::Reject
     }
 
-    // Whether nodes of the kind are shown.
+    // Returns whether nodes of the kind are shown.
     fn shows(&self, kind: Kind) -> bool
         ensures { result ≡ shows self.now.show kind }
     {
         (self.filter.show >> (kind.number() - 1)) % 2 == 1
     }
 
-    // What the first rule for the name says.
+    // Returns the verdict of the first rule for the name.
     fn ruled(&self, name: &str) -> Verdict
         ensures { result ≡ ruled self.now.rules name.now }
     {

@@ -1,4 +1,4 @@
-//! Items by number, found by their roots and by where they stand.
+//! Items by number, found by their roots and positions.
 
 ghost use Rattle.std.specs.Prelude.{◌≡◌, ◌<◌, [], ◌∷◌, ◌++◌, length, slice_get, slice_set, count_by, Some, IsSome, is_some, IfOk, OnOk, OnErr};
 ghost use Rattle.std.specs.List.{list_any, flat_map};
@@ -19,14 +19,13 @@ use indexmap::IndexMap;
 use std::alloc::{AllocError, Global};
 use std::marker::Model;
 
-// Items that have numbers, each with a root and a node at which it stands. One that leaves its node waits until someone asks which stand inside
-// a node.
+// Items with numbers, each with a root and a position. An item that moves is only marked, until a caller asks which are inside a subtree.
 #[derive(Drop)]
 pub(crate) struct Located<T: Standing> {
     pub(crate) items: Slotted<T>,
-    // by slot where each stands, unless it waits
+    // positions by slot; none while an item is marked as moved
     pub(crate) whereabouts: Whereabouts,
-    // how many have a node as their root, by its number
+    // how many items have a node as their root, by its number
     roots: IndexMap<u32, u32>,
 }
 
@@ -45,7 +44,7 @@ impl<T: Standing> Model for Located<T> {
     ghost invariant = { λ l. AreFound T.root_of T.node_of l.items.items l.roots l.whereabouts };
 }
 
-// The slot of an item, where it is read and written.
+// The slot of an item, for reading and writing.
 pub(crate) fn slot_of<T>(items: &Slotted<T>, number: u32) -> usize
     requires { IsSome (item_in (by_slot items.now.slots items.now.items) number) }
     ensures within { result < length items.now.items }
@@ -58,7 +57,7 @@ pub(crate) fn slot_of<T>(items: &Slotted<T>, number: u32) -> usize
     items.slot(number).unwrap()
 }
 
-// Those that wait come to stand at their nodes.
+// Stores the positions of moved items.
 pub(crate) fn catch_up<T: Standing>(items: &[T], whereabouts: &mut Whereabouts)
     requires { StandOrWait T.node_of items.now whereabouts.old }
     ensures { whereabouts.new ≡ all_standing T.node_of items.now }
@@ -70,7 +69,7 @@ pub(crate) fn catch_up<T: Standing>(items: &[T], whereabouts: &mut Whereabouts)
 }
 
 impl<T: Standing> Located<T> {
-    // No items.
+    // Returns a table without items.
     pub(crate) fn new(alloc: Global) -> Located<T>
         ensures { result ≡ [] }
     {
@@ -81,12 +80,12 @@ impl<T: Standing> Located<T> {
         }
     }
 
-    // By what it takes memory.
+    // Returns the allocator.
     pub(crate) fn allocator(&self) -> Global {
         *self.roots.allocator()
     }
 
-    // Adds an item that stands at its root, with the next number.
+    // Adds an item at its root, with the next number.
     pub(crate) fn add(&mut self, item: T) -> Result<u32, AllocError>
         requires room { length self.old < 4294967295 }
         requires stands { T.node_of item ≡ T.root_of item }
@@ -104,28 +103,28 @@ impl<T: Standing> Located<T> {
         Ok(self.items.push_reserved(item))
     }
 
-    // How many numbers were given out.
+    // Returns how many numbers were given out.
     pub(crate) fn made(&self) -> u64
         ensures { result ≡ length self.now }
     {
         self.items.made()
     }
 
-    // How many items there are.
+    // Returns the number of items.
     pub(crate) fn count(&self) -> usize
         ensures { result ≡ count_by is_some self.now }
     {
         self.items.count()
     }
 
-    // Whether there is an item of a number.
+    // Returns whether there is an item of a number.
     pub(crate) fn holds(&self, number: u32) -> bool
         ensures { result ≡ is_some (item_in self.now number) }
     {
         self.items.holds(number)
     }
 
-    // An item.
+    // Borrows an item.
     pub(crate) fn get(&self, number: u32) -> &T
         requires { IsSome (item_in self.now number) }
         ensures { item_in self.now number ≡ Some result.now }
@@ -133,7 +132,7 @@ impl<T: Standing> Located<T> {
         self.items.get(number).unwrap()
     }
 
-    // Takes an item out. It names no node any more.
+    // Removes an item. It refers to no node any more.
     pub(crate) fn release(&mut self, number: u32)
         requires { IsSome (item_in self.old number) }
         ensures { self.new ≡ released number self.old }
@@ -143,14 +142,14 @@ impl<T: Standing> Located<T> {
         unname(&mut self.roots, item.root());
     }
 
-    // Those that wait come to stand at their nodes.
+    // Stores the positions of moved items.
     pub(crate) fn catch_up(&mut self)
         ensures { self.new ≡ self.old }
     {
         catch_up(self.items.items(), &mut self.whereabouts);
     }
 
-    // The root or the node of an item, one after the other of each; none past the last.
+    // Returns the root or position of an item, two for each item; none past the last.
     fn named(&self, index: usize) -> Option<NodeId> {
         let item = self.items.items().get(index / 2)?;
         Some(if index % 2 == 0 {
@@ -160,8 +159,8 @@ impl<T: Standing> Located<T> {
         })
     }
 
-    // Whether some item has its root or its node among the inclusive descendants of a node. It walks the nodes inside, or climbs from each item
-    // where that takes fewer steps, or where one waits.
+    // Returns whether an item has its root or position in a subtree. Walks the subtree, or climbs from each item if that takes fewer steps, or if one
+    // is marked as moved.
     pub(crate) fn refers<X>(&self, tree: &Tree<X>, top: NodeId) -> bool
         requires { HasNode tree.now.forest top }
         ensures { result ≡ list_any (λ m. among m (inclusive_descendants tree.now.forest top))
@@ -179,7 +178,7 @@ impl<T: Standing> Located<T> {
     }
 }
 
-// The same, by each item there is.
+// Does so by visiting each item.
 fn refer<T: Standing, X>(items: &[T], tree: &Tree<X>, top: NodeId) -> bool
     requires { HasNode tree.now.forest top }
     ensures { result ≡ list_any (λ m. among m (inclusive_descendants tree.now.forest top))

@@ -1,4 +1,4 @@
-//! Whether items name a node inside another: the one at which they stand, or a root, which none of them ever changes.
+//! Whether items refer to a node inside a subtree, by their positions or by their roots, which never change.
 
 ghost use Rattle.std.specs.Prelude.{◌≡◌, ℕ, List, ◌+◌, ◌-◌, ◌<◌, IfSome};
 ghost use Rattle.std.specs.List.{list_any};
@@ -11,7 +11,7 @@ use crate::whereabouts::Whereabouts;
 use dom_tree::{NodeId, Tree};
 use indexmap::IndexMap;
 
-// One item more has a node as its root. There is room for another root.
+// Counts one item more with a node as its root, within reserved room.
 pub(crate) fn name(roots: &mut IndexMap<u32, u32>, node: NodeId)
     requires room { 0 < spare roots.old }
     requires few { count_at roots.old node < 4294967295 }
@@ -22,7 +22,7 @@ pub(crate) fn name(roots: &mut IndexMap<u32, u32>, node: NodeId)
     roots.insert(number, count + 1).unwrap();
 }
 
-// One item fewer has it.
+// Counts one item less.
 pub(crate) fn unname(roots: &mut IndexMap<u32, u32>, node: NodeId)
     requires { 0 < count_at roots.old node }
     ensures { Recounts roots.old roots.new node (count_at roots.old node - 1) }
@@ -36,14 +36,14 @@ pub(crate) fn unname(roots: &mut IndexMap<u32, u32>, node: NodeId)
     }
 }
 
-// Whether an item names a node.
+// Returns whether an item refers to a node.
 fn names(roots: &IndexMap<u32, u32>, standing: &Whereabouts, node: NodeId) -> bool
     ensures { result ≡ is_named roots.now standing.now node }
 {
     roots.contains_key(&node.number()) || standing.names(node)
 }
 
-// Whether an item names a node inside `top`: it asks so many nodes there, and has no answer where there are more.
+// Returns whether an item refers to a node inside `top`, or nothing if there are too many nodes to visit.
 pub(crate) fn names_inside<X>(
     roots: &IndexMap<u32, u32>,
     standing: &Whereabouts,

@@ -1,4 +1,4 @@
-//! What is asked of an item that stands somewhere.
+//! The trait of items with a position.
 
 ghost use Rattle.std.specs.Prelude.{◌≡◌, ℕ};
 ghost use Rattle.std.specs.List.{list_any};
@@ -8,24 +8,24 @@ ghost use Rattle.dom_traverse.specs.Naming.{named_by};
 
 use dom_tree::{NodeId, Tree};
 
-// An item with a root, which stays, and a node at which it stands.
+// An item with a fixed root and a position.
 pub(crate) trait Standing: Drop {
     // the root of an item
     ghost root_of: { Self → ℕ };
 
-    // the node at which it stands
+    // the position of an item
     ghost node_of: { Self → ℕ };
 
-    // Its root.
+    // Returns the root.
     fn root(&self) -> NodeId
         ensures { result ≡ root_of self.now };
 
-    // The node at which it stands.
+    // Returns the position.
     fn node(&self) -> NodeId
         ensures { result ≡ node_of self.now };
 }
 
-// Whether the root of an item, or the node at which it stands, is an inclusive descendant of a node.
+// Returns whether the root or position of an item is an inclusive descendant of a node.
 pub(crate) fn stands_in<T: Standing, X>(item: &T, tree: &Tree<X>, top: NodeId) -> bool
     requires { HasNode tree.now.forest top }
     ensures { result ≡ list_any (λ m. among m (inclusive_descendants tree.now.forest top))

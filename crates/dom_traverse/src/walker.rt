@@ -12,7 +12,7 @@ use dom_model::Move;
 use dom_tree::{NodeId, Tree};
 use std::marker::Model;
 
-// A root, a current node, which may stand anywhere, and a filter.
+// A root, a current node, which may be anywhere, and a filter.
 #[derive(Drop)]
 pub struct TreeWalker {
     pub root: NodeId,
@@ -43,7 +43,7 @@ impl Standing for TreeWalker {
 }
 
 impl TreeWalker {
-    // To the node that a move finds, where there is one.
+    // Moves to the node that a move finds, if there is one.
     pub fn step<X>(&mut self, tree: &Tree<X>, direction: Move) -> Option<NodeId>
         requires { StandsThere tree.now.forest self.old }
         ensures found { result ≡ walk_found direction tree.now.forest self.old }
@@ -55,7 +55,7 @@ impl TreeWalker {
         Some(found)
     }
 
-    // The node that a move finds.
+    // Returns the node that a move finds.
     fn found<X>(&self, tree: &Tree<X>, direction: Move) -> Option<NodeId>
         requires { StandsThere tree.now.forest self.now }
         ensures { result ≡ walk_found direction tree.now.forest self.now }

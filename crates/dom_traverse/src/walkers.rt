@@ -1,4 +1,4 @@
-//! The tree walkers of a session, by number (DOM Standard, "Interface TreeWalker").
+//! The tree walkers of a session (DOM Standard, "Interface TreeWalker").
 
 ghost use Rattle.std.specs.Prelude.{◌≡◌, ℕ, ◌<◌, [], ◌∷◌, ◌++◌, length, count_by, Some, IsSome, is_some, IfSome, IfOk, OnOk, OnErr};
 ghost use Rattle.std.specs.List.{list_any, flat_map};
@@ -23,13 +23,13 @@ use std::marker::Model;
 #[derive(Clone, Copy, Debug, PartialEq, Eq, Hash, Drop)]
 pub struct OfWalker;
 
-/// The number by which callers name a walker: the first that is made has 0, and no number is used again.
+/// The number of a walker. The first is 0, and no number is reused.
 pub type WalkerId = Id<OfWalker>;
 
 /// Tree walkers. Removing a node does not adjust them.
 ///
-/// A number leads to a slot for as long as its walker is not released. Where one is released the walker in the last slot comes into its slot,
-/// so memory is kept for no more walkers than were there at once.
+/// A live number leads to a slot. If a walker is released, the one in the last slot moves into its slot, so memory is kept for no more walkers than
+/// were live at once.
 #[derive(Drop)]
 pub struct Walkers {
     // each stands at its current node
@@ -46,7 +46,7 @@ impl Model for Walkers {
 }
 
 impl Walkers {
-    /// No walkers.
+    /// Returns a table without walkers.
     pub fn new(alloc: Global) -> Walkers
         ensures { result ≡ [] }
     {
@@ -55,7 +55,7 @@ impl Walkers {
         }
     }
 
-    /// Makes a walker that stands at its root (`createTreeWalker`).
+    /// Makes a walker at its root (`createTreeWalker`).
     pub fn make(&mut self, root: NodeId, filter: Filter) -> Result<WalkerId, AllocError>
         requires room { length self.old < 4294967295 }
         ensures number { IfOk result (λ id. id ≡ length self.old) }
@@ -71,28 +71,28 @@ impl Walkers {
         Ok(WalkerId::new(number))
     }
 
-    /// How many walkers were ever made.
+    /// Returns how many walkers were ever made.
     pub fn made(&self) -> u64
         ensures { result ≡ length self.now }
     {
         self.located.made()
     }
 
-    /// How many walkers there are, without those that were released, in constant time.
+    /// Returns the number of live walkers, in constant time.
     pub fn count(&self) -> usize
         ensures { result ≡ count_by is_some self.now }
     {
         self.located.count()
     }
 
-    /// Whether there is such a walker, and it was not released.
+    /// Returns whether a number is that of a live walker.
     pub fn holds(&self, id: WalkerId) -> bool
         ensures { result ≡ is_some (walker_in self.now id) }
     {
         self.located.holds(id.number())
     }
 
-    /// `root` and `currentNode`.
+    /// Returns `root` and `currentNode`.
     pub fn state(&self, id: WalkerId) -> (NodeId, NodeId)
         requires { IsSome (walker_in self.now id) }
         ensures { IfSome (walker_in self.now id) (λ w. result ≡ (w.root, w.current)) }
@@ -101,7 +101,7 @@ impl Walkers {
         (walker.root, walker.current)
     }
 
-    /// Sets `currentNode`; it may stand outside the root.
+    /// Sets `currentNode`, which may be outside the root.
     pub fn set_current(&mut self, id: WalkerId, node: NodeId)
         requires { IsSome (walker_in self.old id) }
         ensures { WalkerBecomes id (with_current node) self.old self.new }
@@ -113,7 +113,7 @@ impl Walkers {
         located.whereabouts.leave(slot);
     }
 
-    /// Makes one of the seven moves: to the node that it finds, where there is one.
+    /// Runs one of the seven moves: to the node that it finds, if there is one.
     pub fn step<X>(&mut self, tree: &Tree<X>, id: WalkerId, way: Move) -> Option<NodeId>
         requires held { IsSome (walker_in self.old id) }
         requires there { ForSome (walker_in self.old id) (StandsThere tree.now.forest) }
@@ -129,7 +129,7 @@ impl Walkers {
         found
     }
 
-    /// Releases a walker: it names no node any more. It takes no memory.
+    /// Releases a walker. It refers to no node any more. It takes no memory.
     pub fn release(&mut self, id: WalkerId)
         requires { IsSome (walker_in self.old id) }
         ensures { self.new ≡ released id self.old }
@@ -137,18 +137,18 @@ impl Walkers {
         self.located.release(id.number());
     }
 
-    /// Lets `refers` find by the nodes inside what stands there: each walker that moved is put at its current node.
+    /// Updates the table of walkers by node, which `refers` uses.
     ///
-    /// It takes as many moves as walkers moved since the last call, however often each did, and no memory.
+    /// Takes no memory, and one move for each walker that moved since the last call, however often.
     pub fn catch_up(&mut self)
         ensures { self.new ≡ self.old }
     {
         self.located.catch_up();
     }
 
-    /// Whether some walker has its root or its current node among the inclusive descendants of a node.
+    /// Returns whether a walker has its root or current node in a subtree.
     ///
-    /// It walks the nodes inside, or climbs from each walker where that takes fewer steps, or where one moved since the last `catch_up`.
+    /// Walks the subtree, or climbs from each walker if that takes fewer steps, or if one moved since the last `catch_up`.
     pub fn refers<X>(&self, tree: &Tree<X>, top: NodeId) -> bool
         requires { HasNode tree.now.forest top }
         ensures { result ≡ list_any (λ m. among m (inclusive_descendants tree.now.forest top))

@@ -104,7 +104,7 @@ pub(crate) fn next_node<X>(
     course.run(filter, next)
 }
 
-// Down through last children, as long as no node is rejected.
+// Descends through last children, as long as no node is rejected.
 fn end_of<'a, X>(filter: &Judge, node: At<'a, X>) -> At<'a, X>
     ensures tree { result.tree ≡ node.entry.tree }
     ensures descends { Descends node.entry.tree.forest filter.now node.entry.node result.node }
@@ -121,7 +121,7 @@ fn end_of<'a, X>(filter: &Judge, node: At<'a, X>) -> At<'a, X>
     here
 }
 
-// `previousNode()`. The root ends the walk where it is come up to, or has no previous sibling; from behind it is passed.
+// Runs `previousNode()`. The root ends the walk if it is reached from below, or has no previous sibling; from behind it is passed.
 pub(crate) fn previous_node<X>(
     tree: &Tree<X>,
     filter: &Judge,

@@ -1,4 +1,4 @@
-//! Items by number, found by the node at which each stands. The numbers lie without gaps.
+//! Items by number, found by their positions. The numbers have no gaps.
 
 ghost use Rattle.std.specs.Prelude.{◌≡◌, ℕ, ◌+◌, ◌<◌, ◌≤◌, [], ◌∷◌, ◌++◌, length, slice_set, swap_remove, Some, None, IsSome, IfSome, IfNone, IfOk, OnOk, OnErr};
 ghost use Rattle.std.specs.List.{list_any};
@@ -10,15 +10,13 @@ use dom_tree::NodeId;
 use std::alloc::{AllocError, Global};
 use std::marker::Model;
 
-// The node at which each item stands, none while it waits. An item that leaves its node waits until someone asks who stands where: so a step
-// that follows another changes nothing here. Nodes share places by the remainders of their numbers; there are more places than
-// items, so few nodes at which items stand share one.
+// The position of each item, none while it is marked as moved. Several steps in a row change nothing here.
 //
-// To find who stands at a node takes a time that grows with how many stand at its place. To move an item takes the same time however many
-// there are, and no memory.
+// Nodes share buckets by the remainders of their numbers. There are more buckets than items, so few positions share one. Finding the items at a node
+// takes a time that grows with its bucket. Moving an item takes constant time and no memory.
 #[derive(Drop)]
 pub(crate) struct Whereabouts {
-    // the nodes, by their places
+    // positions, by buckets
     chains: Chains<Option<u32>, HeadsInList>,
 }
 
@@ -33,7 +31,7 @@ impl Model for Whereabouts {
     ghost invariant = { λ w. AreSpread (nodes_of w.chains.items) w.chains };
 }
 
-// The place for a node among so many; the first is for items that wait.
+// Returns the bucket of a node among a number of them; the first is for items marked as moved.
 fn place_of(count: usize, node: Option<u32>) -> u32
     requires some { 1 < count }
     requires told { count ≤ 4294967296 }
@@ -47,7 +45,7 @@ fn place_of(count: usize, node: Option<u32>) -> u32
 }
 
 impl Whereabouts {
-    // No items. It takes no memory.
+    // Returns a table without items. It takes no memory.
     pub(crate) fn new(alloc: Global) -> Whereabouts
         ensures { result ≡ [] }
     {
@@ -56,7 +54,7 @@ impl Whereabouts {
         }
     }
 
-    // Whether an item stands at the node.
+    // Returns whether an item is at the node.
     pub(crate) fn names(&self, node: NodeId) -> bool
         ensures { result ≡ list_any (λ o. is_number o node) self.now }
     {
@@ -68,7 +66,7 @@ impl Whereabouts {
         self.chains.any_at(place, |stood| stood == number)
     }
 
-    // Some item that stands at the node or shares its place, and none only where no item stands at the node.
+    // Returns some item at the node or in its bucket; none only if no item is at the node.
     pub(crate) fn first(&self, node: NodeId) -> Option<usize>
         ensures some { IfSome result (λ id. IsSome (node_in self.now id)) }
         ensures none { IfNone result ((e : ℕ) → node_in self.now e ≡ Some node → ⊥) }
@@ -80,7 +78,7 @@ impl Whereabouts {
         self.chains.first(place)
     }
 
-    // Some item that waits.
+    // Returns some item that is marked as moved.
     pub(crate) fn waiting(&self) -> Option<usize>
         ensures within { IfSome result (λ id. id < length self.now) }
         ensures some { IfSome result (λ id. node_in self.now id ≡ None) }
@@ -89,7 +87,7 @@ impl Whereabouts {
         self.chains.first(0)
     }
 
-    // The node at which an item stands.
+    // Returns the position of an item.
     fn node(&self, id: usize) -> Option<u32>
         ensures { result ≡ node_in self.now id }
     {
@@ -97,7 +95,7 @@ impl Whereabouts {
         node
     }
 
-    // Moves an item to a node, or lets it wait.
+    // Moves an item to a node, or marks it as moved.
     fn write(&mut self, id: usize, node: Option<u32>)
         requires { id < length self.old }
         ensures { self.new ≡ slice_set self.old id node }
@@ -114,7 +112,7 @@ impl Whereabouts {
         self.write(id, Some(node.number()));
     }
 
-    // Lets an item wait from then on, where it does not wait yet.
+    // Marks an item as moved, unless it is.
     pub(crate) fn leave(&mut self, id: usize)
         requires { id < length self.old }
         ensures { self.new ≡ slice_set self.old id None }
@@ -124,7 +122,7 @@ impl Whereabouts {
         }
     }
 
-    // Takes an item out. The last item gets its number.
+    // Removes an item. The last item gets its number.
     pub(crate) fn swap_remove(&mut self, id: usize)
         requires { id < length self.old }
         ensures { self.new ≡ swap_remove self.old id None }
@@ -148,7 +146,7 @@ impl Whereabouts {
         Ok(())
     }
 
-    // The items over twice as many places, so that growth takes the same time for each item in the end, however many there are.
+    // Returns the items over twice as many buckets, so that growth takes amortized constant time for each item.
     fn spread(&self, alloc: Global) -> Result<Chains<Option<u32>, HeadsInList>, AllocError>
         requires { length self.now < 4294967295 }
         ensures spread { IfOk result (AreSpread self.now) }

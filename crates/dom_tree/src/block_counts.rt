@@ -15,13 +15,25 @@ const RUN: u32 = 256;
 // How many children stand in a run whose blocks are made.
 const RUN_MADE: u32 = 4096;
 
+// How near questions are to each other that are of one place.
+const ONE_PLACE: usize = 128;
+
+/// How many blocks there must be room for, with so many children and some more.
+pub(crate) fn blocks_of(count: u32) -> usize
+    ensures { result < 2 ^ 32 }
+{
+    (count / BLOCK) as usize + 10
+}
+
 /// How many children stand in each block of a list, in the order of the blocks.
 ///
-/// `runs` has how many stand in each 256 blocks together; it may have none.
+/// `runs` has how many stand in each 256 blocks together; it may have none. `outgrown` is how often the blocks no longer told where a child stands. `is_single` tells that the children are rather numbered one by one, as something is asked at one place alone.
 #[derive(Drop)]
 pub(crate) struct BlockCounts {
     each: Vec<u32>,
     runs: Vec<u32>,
+    outgrown: u32,
+    is_single: bool,
 }
 
 impl Model for BlockCounts {
@@ -114,22 +126,49 @@ fn pass(counts: &[u32], from: usize, index: usize) -> (usize, usize) {
 }
 
 impl BlockCounts {
-    /// No blocks, and room for so many.
-    pub(crate) fn with_capacity(alloc: Global, blocks: usize) -> Result<BlockCounts, AllocError>
+    /// No blocks, and room for those of twice so many children.
+    pub(crate) fn with_capacity(alloc: Global, count: u32) -> Result<BlockCounts, AllocError>
         ensures { IfOk result (λ counts. counts ≡ []) }
     {
+        let blocks = blocks_of(count) * 2;
         let each = Vec::with_capacity(alloc, blocks)?;
         let runs = Vec::with_capacity(alloc, blocks / RUN as usize + 1)?;
-        Ok(BlockCounts { each, runs })
+        Ok(BlockCounts {
+            each,
+            runs,
+            outgrown: 0,
+            is_single: false,
+        })
     }
 
-    /// Makes room for so many blocks more.
-    pub(crate) fn reserve(&mut self, blocks: usize) -> Result<(), AllocError>
+    /// Makes room for the blocks of so many children, and of twice as many if there is not.
+    pub(crate) fn reserve(&mut self, count: u32) -> Result<(), AllocError>
         ensures { self.new ≡ self.old }
     {
-        self.each.reserve(blocks)?;
-        self.runs.reserve(blocks / RUN as usize + 1)?;
+        let blocks = blocks_of(count);
+        if self.each.capacity() < blocks {
+            self.each
+                .reserve((blocks * 2).saturating_sub(self.each.len()))?;
+        }
+        let runs = blocks / RUN as usize + 1;
+        if self.runs.capacity() < runs {
+            self.runs
+                .reserve((runs * 2).saturating_sub(self.runs.len()))?;
+        }
         Ok(())
+    }
+
+    // Whether the children are rather numbered one by one: blocks were outgrown, so often as is tried, and since then questions are near each other.
+    fn gives_way(&mut self, steps: usize) -> bool
+        ensures { self.new ≡ self.old }
+    {
+        if self.each.is_empty() {
+            self.is_single = self.is_single && steps < ONE_PLACE;
+        } else {
+            self.is_single = self.outgrown & self.outgrown.wrapping_add(1) == 0;
+            self.outgrown = self.outgrown.wrapping_add(1);
+        }
+        self.is_single
     }
 
     /// How many blocks there are.
@@ -183,12 +222,17 @@ impl BlockCounts {
         }
     }
 
-    /// Makes blocks of so many children, where there is room for them; else there are none.
-    pub(crate) fn fill(&mut self, count: u32) -> bool
+    /// Makes blocks of so many children, where there is room for them and they serve; else there are none. The child that is asked for stands so many steps behind the nearest one that is known.
+    pub(crate) fn fill(&mut self, count: u32, steps: usize) -> bool
         ensures filled { IsTrue result → AreFilled self.new count }
         ensures none { result ≡ false → self.new ≡ [] }
     {
+        let gives_way = self.gives_way(steps);
         self.runs.clear();
+        if gives_way {
+            self.each.clear();
+            return false;
+        }
         if !fill(&mut self.each, count) {
             return false;
         }

@@ -10,10 +10,10 @@ ghost use Rattle.dom_tree.specs.Slots.{unknown, reach_in, IsCounted};
 ghost use Rattle.dom_tree.specs.Blocks.{raised, counts_in, counts_but, block_beside, block_put, blocked_put, block_at, previous_in_block, lowered_at, AreBlocked};
 
 use crate::block_counts::BLOCK;
-use crate::blocks::Blocks;
+use crate::blocks::{Blocks, LONG};
 use crate::item::{Item, UNKNOWN};
 use crate::nearby::{self, named, number_of};
-use crate::upkeep::{index_of, number_up_to, reach_of, set_index, set_sure};
+use crate::upkeep::{index_of, number_up_to, reach_of, set_index, set_sure, sure_of};
 use dom_links::{Link, Place, Store};
 
 // How far the start of a block is looked for.
@@ -76,6 +76,20 @@ pub(crate) fn blocked_put<X>(
     set_sure(links, parent, 0, UNKNOWN);
 }
 
+// Another sibling is near, if a child that is about to be cut is the one that was last asked for among many.
+fn pass_on<X>(links: &Store<Item<X>>, blocks: &mut Blocks, parent: Place, child: Place, block: u32)
+    requires parent_placed { IsPlaced links.now parent }
+    requires child_placed { IsPlaced links.now child }
+    ensures { blocks.new ≡ blocks.old }
+{
+    blocks.pass_on(
+        links.slot(parent),
+        block,
+        number_of(links, child),
+        named(links, links.next(child)),
+    );
+}
+
 /// Counts a child that is about to be cut out of its block.
 pub(crate) fn blocked_cut<X>(links: &Store<Item<X>>, blocks: &mut Blocks, child: Place)
     requires placed { IsPlaced links.now child }
@@ -87,15 +101,11 @@ pub(crate) fn blocked_cut<X>(links: &Store<Item<X>>, blocks: &mut Blocks, child:
 {
     let parent = nearby::parent(links, child).unwrap();
     if may_be_blocked(links, parent) {
-        let slot = links.slot(parent);
         let block = links.value(child).index;
-        blocks.lower(slot, block);
-        blocks.pass_on(
-            slot,
-            block,
-            number_of(links, child),
-            named(links, links.next(child)),
-        );
+        blocks.lower(links.slot(parent), block);
+        pass_on(links, blocks, parent, child, block);
+    } else if LONG < links.count(parent) {
+        pass_on(links, blocks, parent, child, 0);
     }
 }
 
@@ -254,9 +264,12 @@ pub(crate) fn number_around<X>(
         blocks.come_near(slot, index_of(links, child), number_of(links, child));
         return;
     }
-    if blocks.fill(slot, links.count(parent)) {
+    let number = number_of(links, child);
+    let steps = index.saturating_sub(sure_of(links, parent) as usize);
+    if blocks.fill(slot, links.count(parent), steps) {
         number_blocks(links, blocks, parent);
     } else {
         number_up_to(links, parent, child, index);
+        blocks.come_near(slot, 0, number);
     }
 }

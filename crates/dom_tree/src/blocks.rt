@@ -1,27 +1,27 @@
 //! The blocks of long lists of children: how many children stand in each.
 
-ghost use Rattle.std.specs.Prelude.{◌≡◌, ℕ, ◌==◌, if◌then◌else◌, option_copied, [], IsTrue, false, nat_eq};
+ghost use Rattle.std.specs.Prelude.{◌≡◌, ℕ, ◌^◌, ◌<◌, ◌==◌, if◌then◌else◌, option_copied, [], IsTrue, false, nat_eq};
 ghost use Rattle.indexmap.specs.IndexMap.{IsUnique};
 ghost use Rattle.dom_tree.specs.Blocks.{raised, lowered, counts_of, counts_in, counts_but, AreFilled};
 
-use crate::block_counts::{BLOCK, BlockCounts};
+use crate::block_counts::{BlockCounts, blocks_of};
 use crate::node_id::NodeId;
 use dom_links::Slot;
 use indexmap::IndexMap;
 use std::alloc::{AllocError, Global};
 use std::marker::Model;
 
-/// How many children a list has that is long. Fewer stand in no blocks.
+/// A list that has more children is long. No more than these stand in no blocks.
 pub(crate) const LONG: u32 = 128;
 
 /// For each parent whose children stand in blocks how many stand in each, in their order.
 ///
-/// `near` has a node for each block, mostly one of its children: whoever goes by it has to see where it stands. `wanted` is the parent for which there was no room when its children were to be put into blocks.
+/// `near` has a node for each block, mostly one of its children: whoever goes by it has to see where it stands. The first of them is the child last asked for, if the children are numbered one by one. `was_refused` tells that memory for blocks was refused once: from then on each list that changes sees whether it has room.
 #[derive(Drop)]
 pub(crate) struct Blocks {
     by_slot: IndexMap<usize, BlockCounts>,
     near: IndexMap<usize, Vec<NodeId>>,
-    wanted: Option<usize>,
+    was_refused: bool,
 }
 
 impl Model for Blocks {
@@ -44,11 +44,11 @@ fn remove(by_slot: &mut IndexMap<usize, BlockCounts>, parent: usize)
     let _ = by_slot.swap_remove(&parent);
 }
 
-// Makes room for so many counts of a parent.
+// Makes room for the counts of a parent that has so many children.
 fn reserve(
     by_slot: &mut IndexMap<usize, BlockCounts>,
     parent: usize,
-    blocks: usize,
+    count: u32,
     alloc: Global,
 ) -> Result<(), AllocError>
     requires { IsUnique nat_eq by_slot.old }
@@ -56,28 +56,38 @@ fn reserve(
     ensures unique { IsUnique nat_eq by_slot.new }
 {
     match by_slot.get_mut(&parent) {
-        Some(counts) => counts.reserve(blocks)?,
+        Some(counts) => counts.reserve(count)?,
         None => {
-            let counts = BlockCounts::with_capacity(alloc, blocks)?;
+            let counts = BlockCounts::with_capacity(alloc, count)?;
             by_slot.insert(parent, counts)?;
         }
     }
     Ok(())
 }
 
-// Makes room for a node of so many blocks of a parent.
+// Makes room for a node of each block of a parent that has so many children.
 fn reserve_near(
     near: &mut IndexMap<usize, Vec<NodeId>>,
     parent: usize,
-    blocks: usize,
+    count: u32,
     alloc: Global,
 ) -> Result<(), AllocError> {
     match near.get_mut(&parent) {
-        Some(nodes) => nodes.reserve(blocks)?,
+        Some(nodes) => grow(nodes, blocks_of(count))?,
         None => {
-            let nodes = Vec::with_capacity(alloc, blocks)?;
+            let nodes = Vec::with_capacity(alloc, blocks_of(count) * 2)?;
             near.insert(parent, nodes)?;
         }
+    }
+    Ok(())
+}
+
+// Makes room for so many nodes, and for twice as many if there is not.
+fn grow(nodes: &mut Vec<NodeId>, blocks: usize) -> Result<(), AllocError>
+    requires few { blocks < 2 ^ 32 }
+{
+    if nodes.capacity() < blocks {
+        nodes.reserve((blocks * 2).saturating_sub(nodes.len()))?;
     }
     Ok(())
 }
@@ -111,7 +121,7 @@ impl Blocks {
         Blocks {
             by_slot: IndexMap::new(alloc),
             near: IndexMap::new(alloc),
-            wanted: None,
+            was_refused: false,
         }
     }
 
@@ -142,24 +152,23 @@ impl Blocks {
         }
     }
 
-    /// Makes blocks of a parent's children, where they are many and there is room; else the parent has none from then on, and room is wanted.
-    pub(crate) fn fill(&mut self, parent: Slot, count: u32) -> bool
+    /// Makes blocks of a parent's children, where they are many and there is room, and where it serves more than one place; else the parent has none from then on. The child that is asked for stands so many steps behind the nearest one that is known.
+    pub(crate) fn fill(&mut self, parent: Slot, count: u32, steps: usize) -> bool
         ensures filled { IsTrue result → AreFilled (counts_in self.new parent) count }
         ensures none { result ≡ false → counts_in self.new parent ≡ [] }
         ensures others { (p : ℕ) → counts_in self.new p
             ≡ counts_but parent (counts_in self.new parent) self.old p }
     {
-        if count < LONG {
+        if count <= LONG {
             self.remove(parent);
             return false;
         }
         if let Some(counts) = self.by_slot.get_mut(&parent.number()) {
-            if counts.fill(count) {
+            if counts.fill(count, steps) {
                 self.forget(parent);
                 return true;
             }
         }
-        self.wanted = Some(parent.number());
         false
     }
 
@@ -173,28 +182,32 @@ impl Blocks {
         }
     }
 
-    /// Makes room for blocks of a parent's children, where it was wanted, or where they have become twice as many: so a question finds it.
-    #[inline(never)]
+    /// Makes room for blocks of a parent's children, each time when so many more as make a list long have come, or each time if memory for it was refused before: so a question finds it.
     pub(crate) fn make_room(&mut self, parent: Slot, count: u32) -> Result<(), AllocError>
         ensures { (p : ℕ) → counts_in self.new p ≡ counts_in self.old p }
     {
-        let has_doubled = LONG <= count && count & (count - 1) == 0;
-        if self.wanted != Some(parent.number()) && !has_doubled {
+        if count % LONG != 0 && !self.was_refused {
             return Ok(());
         }
-        let blocks = (count / BLOCK) as usize + 2;
-        let alloc = *self.by_slot.allocator();
-        reserve(&mut self.by_slot, parent.number(), blocks * 2, alloc)?;
-        reserve_near(&mut self.near, parent.number(), blocks * 2, alloc)?;
-        if self.wanted == Some(parent.number()) {
-            self.wanted = None;
-        }
-        Ok(())
+        self.take_room(parent, count)
     }
 
-    /// A node that stood near the child at an index when the blocks were made.
+    /// Makes room for the blocks of a parent that is to have so many children.
+    #[inline(never)]
+    pub(crate) fn take_room(&mut self, parent: Slot, count: u32) -> Result<(), AllocError>
+        ensures { (p : ℕ) → counts_in self.new p ≡ counts_in self.old p }
+    {
+        let alloc = *self.by_slot.allocator();
+        let room = reserve(&mut self.by_slot, parent.number(), count, alloc);
+        let room_near = reserve_near(&mut self.near, parent.number(), count, alloc);
+        self.was_refused |= room.is_err() || room_near.is_err();
+        room?;
+        room_near
+    }
+
+    /// A node that stood near the child at an index when the blocks were made; without blocks the one last asked for.
     pub(crate) fn near(&self, parent: Slot, index: usize) -> Option<NodeId> {
-        let block = self.counts(parent)?.block_of(index)?;
+        let block = self.counts(parent)?.block_of(index).unwrap_or(0);
         let nodes = self.near.get(&parent.number())?;
         nodes.get(block).copied()
     }

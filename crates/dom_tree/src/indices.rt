@@ -39,7 +39,8 @@ impl<X> Tree<X> {
         }
     }
 
-    /// Makes room for blocks of a parent's children, where a question about them wanted it: an index is then known at any place, also between changes of the list. `Err` where more memory is refused.
+    /// Makes room for blocks of a parent's children, if these are many: an index is then known at any place, also between changes of the list. `Err` where more memory is refused.
+    #[inline(always)]
     pub fn make_room(&mut self, parent: NodeId) -> Result<(), AllocError>
         requires { HasNode self.old.forest parent }
         ensures { self.new ≡ self.old }
@@ -50,6 +51,20 @@ impl<X> Tree<X> {
             return Ok(());
         }
         self.blocks.make_room(self.links.slot(place), count)
+    }
+
+    /// Makes room for blocks of a parent's children and of so many that are to come, if these are many together: an index is then known at any place, however they came. `Err` where more memory is refused.
+    pub fn make_room_for(&mut self, parent: NodeId, more: usize) -> Result<(), AllocError>
+        requires { HasNode self.old.forest parent }
+        ensures { self.new ≡ self.old }
+    {
+        let place = place_of(&self.links, &self.table, parent);
+        let more = more.min(u32::MAX as usize) as u32;
+        let count = self.links.count(place).saturating_add(more);
+        if count <= LONG {
+            return Ok(());
+        }
+        self.blocks.take_room(self.links.slot(place), count)
     }
 
     /// Numbers the children of a parent, so that each child's index is known until the list changes in front of it. It takes no memory.

@@ -3,7 +3,6 @@
 ghost use Rattle.std.specs.Prelude.{◌≡◌, ◌+◌, ◌-◌, ◌<◌, ◌≤◌, length, slice_get, Some, IfSome};
 ghost use Rattle.dom_model.specs.Forests.Forest.{HasNode, parent_of, children_of};
 
-use crate::blocking::may_be_blocked;
 use crate::nearby::{self, NEAR, number_of, place_of};
 use crate::node_id::NodeId;
 use crate::tree::Tree;
@@ -30,7 +29,7 @@ impl<X> Tree<X> {
         self.child_from_last(id, behind)
     }
 
-    // The child at an index, where one that stood in its block is still a child.
+    // The child at an index, where one that stood near it is still a child, and its index is known.
     fn child_in_block(&self, id: NodeId, index: usize) -> Option<NodeId>
         requires { HasNode self.now.forest id }
         ensures { IfSome result (λ child. Some child
@@ -38,22 +37,19 @@ impl<X> Tree<X> {
     {
         self.sound();
         let near = self.near_in_block(id, index)?;
-        let from = self.index_in_block(near)?;
+        let from = self.index_within(near, 0)?;
         if from <= index {
             return self.child_after(id, near, from, index - from);
         }
         self.child_before(id, near, from, from - index)
     }
 
-    // A child that stood in the block of the one at an index, where it is still a child.
+    // A child that stood near the one at an index, where it is still a child.
     fn near_in_block(&self, id: NodeId, index: usize) -> Option<NodeId>
         requires { HasNode self.now.forest id }
         ensures { IfSome result (λ near. parent_of self.now.forest near ≡ Some id) }
     {
         let place = place_of(&self.links, &self.table, id);
-        if !may_be_blocked(&self.links, place) {
-            return None;
-        }
         let near = self.blocks.near(self.links.slot(place), index)?;
         if self.holds(near) && self.parent(near) == Some(id) {
             return Some(near);

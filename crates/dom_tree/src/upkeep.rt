@@ -34,8 +34,8 @@ pub(crate) fn set_sure<X>(links: &mut Store<Item<X>>, place: Place, sure: u32, r
     item.reach = reach;
 }
 
-// How many of a node's first children have a right index.
-fn sure_of<X>(links: &Store<Item<X>>, place: Place) -> u32
+/// How many of a node's first children have a right index.
+pub(crate) fn sure_of<X>(links: &Store<Item<X>>, place: Place) -> u32
     requires { IsPlaced links.now place }
     ensures { result ≡ sure_in (entry_behind links.now place) }
 {

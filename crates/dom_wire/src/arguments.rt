@@ -1,4 +1,4 @@
-//! The arguments of a command, as they were read.
+//! The parsed arguments of a command.
 
 ghost use Rattle.std.specs.Prelude.{◌≡◌, ◌<◌, ◌+◌, [], map, slice_index, slice_index_or, slice_set, string_bytes};
 ghost use Rattle.dom_model.specs.MutationObservers.GivenOptions.{no_options};
@@ -7,18 +7,18 @@ use dom_session::{Filter, Move, NodeId, Point, RawOptions, Rule, Units};
 use std::alloc::Global;
 use std::mem;
 
-/// What an argument has to be.
+/// The shape of an argument.
 #[derive(Clone, Copy, Debug)]
 pub enum Shape {
     /// An integer from 0 to 4294967295.
     Number,
-    /// Such an integer, or null.
+    /// An integer from 0 to 4294967295, or null.
     NumberOrNull,
-    /// A string, taken as UTF-8.
+    /// A string, as UTF-8.
     String,
     /// A string, or an array of UTF-16 units.
     Text,
-    /// A text, or null, which stands for the empty one.
+    /// A text, or null for the empty one.
     TextOrNull,
     /// `true` or `false`.
     Flag,
@@ -32,7 +32,7 @@ pub enum Shape {
     Options,
 }
 
-/// What was read so far: numbers and strings by their place among the arguments, and one of each other shape.
+/// The arguments read so far: numbers and strings by their place, and one of each other shape.
 #[derive(Drop)]
 pub struct Arguments {
     pub numbers: [u32; 4],
@@ -46,7 +46,7 @@ pub struct Arguments {
     pub options: RawOptions,
 }
 
-// No options.
+// Returns options without members.
 fn no_options() -> RawOptions
     ensures { result ≡ no_options }
 {
@@ -65,7 +65,7 @@ impl Arguments {
     ghost use Rattle.dom_model.specs.Commands.Table.{no_arguments};
     ghost use Rattle.dom_wire.specs.Shapes.{arguments_view};
 
-    /// None yet.
+    /// Returns no arguments.
     pub fn new(alloc: Global) -> Arguments
         ensures { arguments_view result ≡ no_arguments }
     {
@@ -87,7 +87,7 @@ impl Arguments {
         }
     }
 
-    /// The numbers at a place and the next, as a node and an offset in it.
+    /// Returns the numbers at a place and the next, as a node and an offset in it.
     pub fn point(&self, place: usize) -> Point
         requires { place < 3 }
         ensures { result ≡ record {
@@ -101,7 +101,7 @@ impl Arguments {
         }
     }
 
-    /// The number that may be missing, as that of a node.
+    /// Returns the number that may be missing, as that of a node.
     pub fn maybe_node(&self) -> Option<NodeId>
         ensures { result ≡ self.now.number }
     {
@@ -111,7 +111,7 @@ impl Arguments {
         }
     }
 
-    /// The string at a place, which is empty from then on.
+    /// Takes the string at a place, and leaves an empty one.
     pub fn string(&mut self, alloc: Global, place: usize) -> String
         requires { place < 4 }
         ensures value { string_bytes result
@@ -125,14 +125,14 @@ impl Arguments {
         mem::replace(&mut self.strings[place], String::new(alloc))
     }
 
-    /// The text, which is empty from then on.
+    /// Takes the text, and leaves an empty one.
     pub fn text(&mut self, alloc: Global) -> Units
         ensures { result ≡ self.old.text }
     {
         mem::replace(&mut self.text, Units::new(alloc))
     }
 
-    /// The filter of the kinds at place 1, and of the rules, of which there are none from then on.
+    /// Takes the filter of the kinds at place 1 and of the rules, and leaves no rules.
     pub fn filter(&mut self, alloc: Global) -> Filter
         ensures { result ≡ record {
           show = slice_index self.old.numbers 1;
@@ -145,7 +145,7 @@ impl Arguments {
         }
     }
 
-    /// The options, which are none from then on.
+    /// Takes the options, and leaves none.
     pub fn options(&mut self) -> RawOptions
         ensures { result ≡ self.old.options }
     {

@@ -17,7 +17,7 @@ use dom_session::Units;
 use serde_json::Value;
 use std::alloc::Global;
 
-/// As many values as shapes, each of its shape.
+/// Reads as many values as shapes, each of its shape.
 pub(crate) fn arguments_of(
     alloc: Global,
     shapes: &[Shape],
@@ -39,7 +39,7 @@ pub(crate) fn arguments_of(
     Ok(arguments)
 }
 
-// One argument more, at its place.
+// Reads the next argument, at its place.
 fn take(
     alloc: Global,
     shape: Shape,

@@ -1,12 +1,12 @@
-//! Why no command was read.
+//! Errors of reading a command.
 
 use dom_model::OwnError;
 
-/// Why a line gives no command.
+/// The error of a line that gives no command.
 #[derive(Clone, Copy, Debug, PartialEq, Eq)]
 pub enum ReadError {
     /// The refusal of the line.
     Own(OwnError),
-    /// Memory was wanting.
+    /// Out of memory.
     Memory,
 }

@@ -1,4 +1,4 @@
-//! Filters and moves as they stand in a line.
+//! Reading filters and moves.
 
 ghost use Rattle.std.specs.Prelude.{◌≡◌, [], ◌∷◌};
 ghost use Rattle.serde_json.specs.View.{view, items_view};
@@ -11,7 +11,7 @@ use dom_session::{Move, Rule, Verdict};
 use serde_json::Value;
 use std::alloc::Global;
 
-// The verdict of that name.
+// Returns the verdict of that name.
 fn verdict_of(text: &str) -> Option<Verdict>
     ensures { result ≡ named_in verdict_names text.now }
 {
@@ -23,7 +23,7 @@ fn verdict_of(text: &str) -> Option<Verdict>
     }
 }
 
-// The move of that name.
+// Returns the move of that name.
 fn course_of(text: &str) -> Option<Move>
     ensures { result ≡ named_in move_names text.now }
 {
@@ -39,7 +39,7 @@ fn course_of(text: &str) -> Option<Move>
     }
 }
 
-/// A string that names a walker's move.
+/// Reads a string that names a walker's move.
 pub(crate) fn course_in(value: &Value) -> Option<Move>
     ensures { result ≡ move_in (view value.now) }
 {
@@ -49,7 +49,7 @@ pub(crate) fn course_in(value: &Value) -> Option<Move>
     }
 }
 
-/// An array of rules, each an array of a name and a verdict.
+/// Reads an array of rules, each an array of a name and a verdict.
 pub(crate) fn rules_in(alloc: Global, value: &Value) -> Result<Vec<Rule>, ReadError>
     ensures { Decodes (λ rules. rules.items) result (list_in rule_in (view value.now)) }
 {
@@ -85,7 +85,7 @@ fn rule_in(alloc: Global, value: &Value) -> Result<Rule, ReadError>
     }
 }
 
-// A name, and then a verdict.
+// Reads a name, and then a verdict.
 fn rule_from(alloc: Global, items: &[Value]) -> Result<Rule, ReadError>
     ensures { Decodes (λ rule. rule) result (rule_from (items_view items.now)) }
 {

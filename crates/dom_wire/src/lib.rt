@@ -15,7 +15,7 @@ mod rows;
 mod texts;
 mod values;
 
-/// What lines are read for, and what is printed of it.
+/// The session's types that lines are read for and printed from.
 pub use dom_session::{Brief, Command, Ended, Limits, OwnError, Reply, Session};
 pub use error::ReadError;
 pub use printing::write_reply;

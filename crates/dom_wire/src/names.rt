@@ -100,7 +100,7 @@ pub enum Name {
     DescribeStaticRange,
 }
 
-/// The names of that length in bytes, in the order of the table.
+/// Returns the names of that length in bytes, in the order of the table.
 #[tactic(auto, unfolding(crate::specs::Rows::row_of, dom_model::specs::Commands::Table::whole_table))]
 pub(crate) fn names_of_length(length: usize) -> &'static [Name]
     ensures { map row_of result.now ≡ filter (is_of_length length) whole_table }
@@ -218,7 +218,7 @@ impl Name {
     ghost use Rattle.dom_session.specs.Views.{command_view};
     ghost use Rattle.dom_wire.specs.Shapes.{shape_view, arguments_view};
 
-    /// As it stands in a line.
+    /// Returns the name as text.
     #[tactic(auto, unfolding(crate::specs::Rows::row_of))]
     pub fn text(self) -> &'static str
         ensures { result.now ≡ (row_of self).name }
@@ -310,7 +310,7 @@ impl Name {
         }
     }
 
-    /// What its arguments have to be.
+    /// Returns the shapes of its arguments.
     #[tactic(auto, unfolding(crate::specs::Rows::row_of))]
     pub fn shapes(self) -> &'static [Shape]
         ensures shapes { map shape_view result.now ≡ (row_of self).shapes }
@@ -408,7 +408,7 @@ impl Name {
         }
     }
 
-    /// The command that the arguments make. It takes the strings, the text and what else owns memory out of them.
+    /// Returns the command of the arguments. It takes the strings, the text and everything else that owns memory from them.
     #[tactic(auto, unfolding(crate::specs::Rows::row_of))]
     pub fn command(self, alloc: Global, a: &mut Arguments) -> Command
         ensures { command_view result ≡ (row_of self).command (arguments_view a.old) }

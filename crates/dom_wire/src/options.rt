@@ -1,4 +1,4 @@
-//! The options of `observe` as they stand in a line.
+//! Reading the options of `observe`.
 
 ghost use Rattle.std.specs.Prelude.{◌≡◌, Some, map, string_bytes, codes};
 ghost use Rattle.serde_json.specs.Find.{get, as_bool, as_str};
@@ -13,7 +13,7 @@ use dom_session::RawOptions;
 use serde_json::Value;
 use std::alloc::Global;
 
-/// An object. Each member that it has of those of `MutationObserverInit` is of its type; others are passed over.
+/// Reads an object. Each member of `MutationObserverInit` must have its type; other members are skipped.
 pub(crate) fn options_in(alloc: Global, value: &Value) -> Result<RawOptions, ReadError>
     ensures { Decodes (λ options. options) result (options_in (view value.now)) }
 {
@@ -26,7 +26,7 @@ pub(crate) fn options_in(alloc: Global, value: &Value) -> Result<RawOptions, Rea
     }
 }
 
-// The options, once the names of the filter are read.
+// Returns the options, once the names of the filter are read.
 fn options_with(value: &Value, names: Option<Vec<String>>) -> Option<RawOptions>
     requires { if_member (list_in as_str) (get (codes "attributeFilter") (view value.now))
         ≡ Some (names_of names) }
@@ -46,7 +46,7 @@ fn options_with(value: &Value, names: Option<Vec<String>>) -> Option<RawOptions>
     })
 }
 
-// A member that is `true` or `false`, where it is there.
+// Reads a member that is `true` or `false`, if it is there.
 fn flag_member(value: &Value, key: &str) -> Option<Option<bool>>
     ensures { result ≡ if_member as_bool (get key.now (view value.now)) }
 {
@@ -59,7 +59,7 @@ fn flag_member(value: &Value, key: &str) -> Option<Option<bool>>
     }
 }
 
-// The names of the filter, where it is there.
+// Reads the names of the filter, if it is there.
 fn names_member(alloc: Global, value: &Value) -> Result<Option<Vec<String>>, ReadError>
     ensures { Decodes names_of result
         (if_member (list_in as_str) (get (codes "attributeFilter") (view value.now))) }

@@ -1,4 +1,4 @@
-//! Where nodes, ranges, iterators and walkers stand, as it is printed.
+//! Printing the positions of nodes, ranges, iterators and walkers.
 
 ghost use Rattle.std.specs.Prelude.{[], ◌∷◌, ◌++◌, codes, decimal};
 ghost use Rattle.json.specs.Token.{key, number, string};
@@ -15,7 +15,7 @@ use dom_session::{Description, Kind, Label, NodeId, Point};
 use json::Writer;
 use std::alloc::AllocError;
 
-/// An object of a node, its keys in ASCII order.
+/// Prints a node as an object, its keys in ASCII order.
 pub(crate) fn write_description(node: &Description, writer: &mut Writer) -> Result<(), AllocError>
     ensures { Adds result writer.old writer.new (tokens_of (description_json node.now)) }
 {
@@ -35,7 +35,7 @@ fn write_document_and_name(node: &Description, writer: &mut Writer) -> Result<()
     writer.string(node.label.node_name())
 }
 
-// The members from `next` on, and the end of the object.
+// Prints the members from `next` on, and the end of the object.
 fn write_from_next(node: &Description, writer: &mut Writer) -> Result<(), AllocError>
     ensures { Adds result writer.old writer.new (members_tokens (members_outline
         (member (codes "next") (or_null number_json node.now.next)
@@ -49,7 +49,7 @@ fn write_from_next(node: &Description, writer: &mut Writer) -> Result<(), AllocE
     write_ids_and_type(&node.label, writer)
 }
 
-// A key, and the node that it tells of.
+// Prints a key and its node.
 fn write_neighbour(name: &str, node: Option<NodeId>, writer: &mut Writer) -> Result<(), AllocError>
     ensures { Adds result writer.old writer.new
         (key name.now ∷ tokens_of (or_null number_json node)) }
@@ -58,7 +58,7 @@ fn write_neighbour(name: &str, node: Option<NodeId>, writer: &mut Writer) -> Res
     write_maybe_node(node, writer)
 }
 
-// Of a doctype both ids, and then the type, which is the last member.
+// Prints both ids of a doctype, and then the type, which is the last member.
 fn write_ids_and_type(label: &Label, writer: &mut Writer) -> Result<(), AllocError>
     ensures { Adds result writer.old writer.new
         (members_tokens (members_outline (ids_members label.now.kind label.now))) }
@@ -74,7 +74,7 @@ fn write_ids_and_type(label: &Label, writer: &mut Writer) -> Result<(), AllocErr
     writer.end_object()
 }
 
-// The node and the offset of each end.
+// Prints the node and the offset of each end.
 fn write_points(start: Point, end: Point, writer: &mut Writer) -> Result<(), AllocError>
     ensures { Adds result writer.old writer.new
         (tokens_of_all (ends_json (record { start = start; end = end }))) }
@@ -85,7 +85,7 @@ fn write_points(start: Point, end: Point, writer: &mut Writer) -> Result<(), All
     writer.u64(end.offset as u64)
 }
 
-/// An array of both ends.
+/// Prints an array of both ends.
 pub(crate) fn write_ends(start: Point, end: Point, writer: &mut Writer) -> Result<(), AllocError>
     ensures { Adds result writer.old writer.new
         (tokens_of (list_json (ends_json (record { start = start; end = end })))) }
@@ -95,7 +95,7 @@ pub(crate) fn write_ends(start: Point, end: Point, writer: &mut Writer) -> Resul
     writer.end_array()
 }
 
-/// An array of both ends, and whether the range is valid.
+/// Prints an array of both ends, and whether the range is valid.
 pub(crate) fn write_static_ends(
     start: Point,
     end: Point,
@@ -111,7 +111,7 @@ pub(crate) fn write_static_ends(
     writer.end_array()
 }
 
-/// An array of the root and the reference, and whether the iterator stands before it.
+/// Prints an array of the root and the reference, and whether the pointer is before it.
 pub(crate) fn write_iterator(
     root: NodeId,
     reference: NodeId,
@@ -128,7 +128,7 @@ pub(crate) fn write_iterator(
     writer.end_array()
 }
 
-/// An array of the root and the current node.
+/// Prints an array of the root and the current node.
 pub(crate) fn write_walker(
     root: NodeId,
     current: NodeId,

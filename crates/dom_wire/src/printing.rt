@@ -21,7 +21,7 @@ use dom_session::{Answer, Brief, Reply};
 use json::Writer;
 use std::alloc::{AllocError, Global};
 
-/// The line of a reply, with its newline: compact JSON, keys in order.
+/// Returns the line of a reply, with its newline: compact JSON, keys in order.
 pub fn write_reply(alloc: Global, reply: &Reply) -> Result<Vec<u8>, AllocError>
     ensures { IfOk result (λ line. line.items ≡ reply_line (reply_view reply.now)) }
 {
@@ -76,7 +76,7 @@ fn write_error(name: &str, writer: &mut Writer) -> Result<(), AllocError>
     writer.string(name)
 }
 
-// The name of a refusal that is not the standard's.
+// Returns the name of a refusal that is not the standard's.
 fn own_name(error: OwnError) -> &'static str
     ensures { result.now ≡ name_of_own error }
 {

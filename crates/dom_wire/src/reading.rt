@@ -16,7 +16,7 @@ use dom_session::Command;
 use serde_json::Value;
 use std::alloc::Global;
 
-/// The command of a line, which has no newline, or its refusal: `BadJson`, `BadCommand` or `BadArguments`.
+/// Reads the command of a line, which has no newline, or returns its refusal: `BadJson`, `BadCommand` or `BadArguments`.
 pub fn read_line(alloc: Global, line: &[u8]) -> Result<Command, ReadError>
     ensures { Reads result (command_of whole_table line.now) }
 {
@@ -40,7 +40,7 @@ fn command_in(alloc: Global, value: &Value) -> Result<Command, ReadError>
     }
 }
 
-// A name first, and then its arguments.
+// Reads a name first, and then its arguments.
 fn command_among(alloc: Global, values: &[Value]) -> Result<Command, ReadError>
     ensures { Reads result (command_among whole_table (map view values.now)) }
 {
@@ -52,7 +52,7 @@ fn command_among(alloc: Global, values: &[Value]) -> Result<Command, ReadError>
     Err(ReadError::Own(OwnError::BadCommand))
 }
 
-// The name that a text is. Only names of its length are looked at.
+// Returns the name with that text. Only names of its length are compared.
 fn named(text: &str) -> Option<Name>
     ensures { option_map row_of result ≡ find (is_row_of text.now) whole_table }
 {

@@ -1,4 +1,4 @@
-//! Records of mutations, and who is told of them, as they are printed.
+//! Printing records of mutations, and the notified observers.
 
 ghost use Rattle.std.specs.Prelude.{◌≡◌, [], ◌∷◌, map};
 ghost use Rattle.serde_json.specs.Data.{string};
@@ -10,7 +10,7 @@ use dom_session::{Record, RecordType, Told};
 use json::Writer;
 use std::alloc::{AllocError, Global};
 
-/// An array of observers, each with its records.
+/// Prints an array of observers, each with its records.
 pub(crate) fn write_notified(
     alloc: Global,
     told: &[Told],
@@ -34,7 +34,7 @@ fn write_told(alloc: Global, told: &Told, writer: &mut Writer) -> Result<(), All
     writer.end_array()
 }
 
-/// An array of records.
+/// Prints an array of records.
 pub(crate) fn write_records(
     alloc: Global,
     records: &[Record],
@@ -58,7 +58,7 @@ fn write_record(alloc: Global, told: &Record, writer: &mut Writer) -> Result<(),
     writer.end_array()
 }
 
-// Type and target, and the nodes added and removed.
+// Prints type and target, and the nodes added and removed.
 fn write_change(told: &Record, writer: &mut Writer) -> Result<(), AllocError>
     ensures { Adds result writer.old writer.new
         (tokens_of_all (type_json told.now.type ∷ number_json told.now.target
@@ -70,7 +70,7 @@ fn write_change(told: &Record, writer: &mut Writer) -> Result<(), AllocError>
     write_nodes(told.removed.as_slice(), writer)
 }
 
-// The siblings, and then the name and the old value.
+// Prints the siblings, and then the name and the old value.
 fn write_context(alloc: Global, told: &Record, writer: &mut Writer) -> Result<(), AllocError>
     ensures { Adds result writer.old writer.new
         (tokens_of_all (or_null number_json told.now.previous ∷ or_null number_json told.now.next
@@ -82,7 +82,7 @@ fn write_context(alloc: Global, told: &Record, writer: &mut Writer) -> Result<()
     write_maybe_units(alloc, &told.old_value, writer)
 }
 
-// The name of a record's type.
+// Returns the name of a record's type.
 fn type_name(what: RecordType) -> &'static str
     ensures { string result.now ≡ type_json what }
 {

@@ -1,4 +1,4 @@
-//! Rows of a printed tree.
+//! Printing the rows of a tree.
 
 ghost use Rattle.std.specs.Prelude.{◌≡◌, [], ◌∷◌, map};
 ghost use Rattle.json.specs.Token.{string};
@@ -11,7 +11,7 @@ use dom_session::{Content, Kind, Label, TreeRow, Units};
 use json::Writer;
 use std::alloc::{AllocError, Global};
 
-/// An array of rows.
+/// Prints an array of rows.
 pub(crate) fn write_rows(
     alloc: Global,
     rows: &[TreeRow],
@@ -26,7 +26,7 @@ pub(crate) fn write_rows(
     writer.end_array()
 }
 
-// Depth, number, kind and name, and then what the kind has.
+// Prints depth, number, kind and name, and then the members of the kind.
 fn write_row(alloc: Global, row: &TreeRow, writer: &mut Writer) -> Result<(), AllocError>
     ensures { Adds result writer.old writer.new (tokens_of (row_json row.now)) }
 {

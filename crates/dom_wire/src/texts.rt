@@ -1,4 +1,4 @@
-//! Numbers and texts as they stand in a line.
+//! Reading numbers and texts.
 
 ghost use Rattle.std.specs.Prelude.{◌≡◌, ◌≤◌, IfSome};
 ghost use Rattle.serde_json.specs.View.{view, items_view};
@@ -11,7 +11,7 @@ use dom_session::Units;
 use serde_json::Value;
 use std::alloc::Global;
 
-/// An integer from 0 to 4294967295.
+/// Reads an integer from 0 to 4294967295.
 pub(crate) fn number_in(value: &Value) -> Option<u32>
     ensures { result ≡ number_in (view value.now) }
 {
@@ -21,7 +21,7 @@ pub(crate) fn number_in(value: &Value) -> Option<u32>
     }
 }
 
-/// A string as its units, or an array of units.
+/// Reads a string as its units, or an array of units.
 pub(crate) fn text_in(alloc: Global, value: &Value) -> Result<Units, ReadError>
     ensures { Decodes (λ units. units) result (text_in (view value.now)) }
 {
@@ -35,7 +35,7 @@ pub(crate) fn text_in(alloc: Global, value: &Value) -> Result<Units, ReadError>
     }
 }
 
-// Each item a unit.
+// Reads each item as a unit.
 fn units_in(alloc: Global, items: &[Value]) -> Result<Units, ReadError>
     ensures { Decodes (λ units. units) result (each_item unit_in (items_view items.now)) }
 {

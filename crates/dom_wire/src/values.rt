@@ -1,4 +1,4 @@
-//! Numbers, texts and names as they are printed.
+//! Printing numbers, texts and names.
 
 ghost use Rattle.std.specs.Prelude.{map, string_bytes};
 ghost use Rattle.serde_json.specs.Data.{string};
@@ -11,7 +11,7 @@ use json::Writer;
 use std::alloc::{AllocError, Global};
 use std::cmp::Ordering;
 
-/// -1, 0 or 1.
+/// Prints -1, 0 or 1.
 pub(crate) fn write_order(order: Ordering, writer: &mut Writer) -> Result<(), AllocError>
     ensures { Adds result writer.old writer.new (tokens_of (order_json order)) }
 {
@@ -22,7 +22,7 @@ pub(crate) fn write_order(order: Ordering, writer: &mut Writer) -> Result<(), Al
     }
 }
 
-/// The number, or null.
+/// Prints the number, or null.
 pub(crate) fn write_maybe_number(number: Option<u32>, writer: &mut Writer) -> Result<(), AllocError>
     ensures { Adds result writer.old writer.new (tokens_of (or_null number_json number)) }
 {
@@ -32,7 +32,7 @@ pub(crate) fn write_maybe_number(number: Option<u32>, writer: &mut Writer) -> Re
     }
 }
 
-/// The number of the node, or null.
+/// Prints the number of the node, or null.
 pub(crate) fn write_maybe_node(node: Option<NodeId>, writer: &mut Writer) -> Result<(), AllocError>
     ensures { Adds result writer.old writer.new (tokens_of (or_null number_json node)) }
 {
@@ -42,7 +42,7 @@ pub(crate) fn write_maybe_node(node: Option<NodeId>, writer: &mut Writer) -> Res
     }
 }
 
-/// The name, or null.
+/// Prints the name, or null.
 pub(crate) fn write_maybe_name(name: &Option<String>, writer: &mut Writer) -> Result<(), AllocError>
     ensures { Adds result writer.old writer.new (tokens_of (or_null string (name_of name.now))) }
 {
@@ -52,7 +52,7 @@ pub(crate) fn write_maybe_name(name: &Option<String>, writer: &mut Writer) -> Re
     }
 }
 
-/// A text, or null.
+/// Prints a text, or null.
 pub(crate) fn write_maybe_units(
     alloc: Global,
     units: &Option<Units>,
@@ -66,7 +66,7 @@ pub(crate) fn write_maybe_units(
     }
 }
 
-/// A string where the units are well-formed, or else their numbers.
+/// Prints a string if the units are well-formed, or else their numbers.
 pub(crate) fn write_units(
     alloc: Global,
     units: &[u16],
@@ -90,7 +90,7 @@ fn write_each_unit(units: &[u16], writer: &mut Writer) -> Result<(), AllocError>
     writer.end_array()
 }
 
-/// An array of numbers.
+/// Prints an array of numbers.
 pub(crate) fn write_numbers(numbers: &[u32], writer: &mut Writer) -> Result<(), AllocError>
     ensures { Adds result writer.old writer.new (tokens_of (numbers_json numbers.now)) }
 {
@@ -101,7 +101,7 @@ pub(crate) fn write_numbers(numbers: &[u32], writer: &mut Writer) -> Result<(), 
     writer.end_array()
 }
 
-/// An array of the numbers of nodes.
+/// Prints an array of the numbers of nodes.
 pub(crate) fn write_nodes(nodes: &[NodeId], writer: &mut Writer) -> Result<(), AllocError>
     ensures { Adds result writer.old writer.new (tokens_of (numbers_json nodes.now)) }
 {
@@ -112,7 +112,7 @@ pub(crate) fn write_nodes(nodes: &[NodeId], writer: &mut Writer) -> Result<(), A
     writer.end_array()
 }
 
-/// An array of names.
+/// Prints an array of names.
 pub(crate) fn write_names(names: &[String], writer: &mut Writer) -> Result<(), AllocError>
     ensures { Adds result writer.old writer.new
         (tokens_of (names_json (map string_bytes names.now))) }

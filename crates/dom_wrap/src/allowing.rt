@@ -1,4 +1,4 @@
-//! Whether a node may be put around the contents of a live range (DOM Standard, "Interface Range", surroundContents).
+//! Whether the contents of a live range can be surrounded by a node (DOM Standard, "Interface Range", surroundContents).
 
 ghost use Rattle.std.specs.Prelude.{◌≡◌, ◌&&◌, ◌||◌, not, true, None, Some, IsSome, MatchResult};
 ghost use Rattle.std.specs.List.{list_any};
@@ -21,7 +21,7 @@ use dom_point::{Point, common, is_before};
 use dom_ranges::RangeId;
 use dom_tree::{NodeId, Tree};
 
-// Whether an end stands in a node, or in a Text that is a child of it.
+// Returns whether an end is in a node, or in a Text that is its child.
 fn is_near(tree: &Tree<Content>, node: NodeId, end: NodeId) -> bool
     requires { HasNode tree.now.forest end }
     ensures { result ≡ is_near tree.now.forest node end }
@@ -29,7 +29,7 @@ fn is_near(tree: &Tree<Content>, node: NodeId, end: NodeId) -> bool
     end == node || (tree.is_of_kind(end, Kind::Text) && tree.parent(end) == Some(node))
 }
 
-// Whether a node is an element that is not contained in a range of its root.
+// Returns whether a node is an element that is not contained in a range of its root.
 fn is_left_element(world: &World, start: Point, end: Point, node: NodeId) -> bool
     requires held { HasNode world.now.tree.forest node }
     requires start_held { HasNode world.now.tree.forest start.node }
@@ -52,7 +52,7 @@ fn is_left_element(world: &World, start: Point, end: Point, node: NodeId) -> boo
     !is_before(&world.tree, start, front) || !is_before(&world.tree, back, end)
 }
 
-// Whether an element is left among the children of a node, once what is contained in a range is gone.
+// Returns whether a node has an element child that a range does not contain.
 fn leaves_element(world: &World, start: Point, end: Point, parent: NodeId) -> bool
     requires held { HasNode world.now.tree.forest parent }
     requires start_held { HasNode world.now.tree.forest start.node }
@@ -74,7 +74,7 @@ fn leaves_element(world: &World, start: Point, end: Point, parent: NodeId) -> bo
     false
 }
 
-// Whether a child of a node, or one behind it, is a doctype.
+// Returns whether a child of a node, or a later sibling of it, is a doctype.
 fn has_doctype_from(tree: &Tree<Content>, parent: NodeId, first: Option<NodeId>) -> bool
     requires held { HasNode tree.now.forest parent }
     requires under { IsAmong first (children_of tree.now.forest parent) }
@@ -90,7 +90,7 @@ fn has_doctype_from(tree: &Tree<Content>, parent: NodeId, first: Option<NodeId>)
     false
 }
 
-// The child of the deepest common ancestor at the place where what lies in a range is gone; none at the end.
+// Returns the child of the deepest common ancestor before which an element would be inserted, once the contents are removed; none at the end.
 fn first_behind(world: &World, start: Point, end: Point, common: NodeId) -> Option<NodeId>
     requires whole { IsWhole world.now }
     requires range { IsRange world.now.tree.forest (record { start = start; end = end }) }
@@ -106,7 +106,7 @@ fn first_behind(world: &World, start: Point, end: Point, common: NodeId) -> Opti
     }
 }
 
-// Whether an element cannot come in at a point as the world stands.
+// Returns whether an element cannot be inserted at a point now.
 fn is_refused_at(world: &World, point: Point, node: NodeId) -> bool
     requires whole { IsWhole world.now }
     requires point_held { HasNode world.now.tree.forest point.node }
@@ -119,7 +119,7 @@ fn is_refused_at(world: &World, point: Point, node: NodeId) -> bool
     check_insert(&world.tree, parent, node, reference).is_err()
 }
 
-// Whether an element cannot come in under the deepest common ancestor, once the contained children are gone.
+// Returns whether an element cannot be inserted under the deepest common ancestor, once the contained children are removed.
 fn is_refused_between(world: &World, start: Point, end: Point, common: NodeId, node: NodeId) -> bool
     requires whole { IsWhole world.now }
     requires range { IsRange world.now.tree.forest (record { start = start; end = end }) }
@@ -147,7 +147,7 @@ fn is_refused_between(world: &World, start: Point, end: Point, common: NodeId, n
     has_doctype_from(&world.tree, common, behind)
 }
 
-// Whether an element cannot come in once what lies in a range is gone.
+// Returns whether an element cannot be inserted once the contents of a range are removed.
 fn is_refused(world: &World, start: Point, end: Point, common: NodeId, node: NodeId) -> bool
     requires whole { IsWhole world.now }
     requires range { IsRange world.now.tree.forest (record { start = start; end = end }) }
@@ -165,7 +165,7 @@ fn is_refused(world: &World, start: Point, end: Point, common: NodeId, node: Nod
     is_refused_between(world, start, end, common, node)
 }
 
-// Whether an end stands deeper than in a Text under the deepest common ancestor.
+// Returns whether an end is deeper than in a Text under the deepest common ancestor.
 fn is_deep(tree: &Tree<Content>, common: NodeId, start: NodeId, end: NodeId) -> bool
     requires start_held { HasNode tree.now.forest start }
     requires end_held { HasNode tree.now.forest end }
@@ -175,7 +175,7 @@ fn is_deep(tree: &Tree<Content>, common: NodeId, start: NodeId, end: NodeId) -> 
     !(is_near(tree, common, start) && is_near(tree, common, end))
 }
 
-// Whether a node is a Document, a doctype or a fragment: none of them can be the new parent.
+// Returns whether a node is a Document, a doctype or a fragment, which cannot be the new parent.
 fn is_invalid_parent(tree: &Tree<Content>, node: NodeId) -> bool
     requires held { HasNode tree.now.forest node }
     ensures { result ≡ (is_of_kind Document tree.now.forest node
@@ -187,7 +187,7 @@ fn is_invalid_parent(tree: &Tree<Content>, node: NodeId) -> bool
         || tree.is_of_kind(node, Kind::DocumentFragment)
 }
 
-// Whether a node is no element, or cannot come in once what lies in a range is gone.
+// Returns whether a node is no element, or cannot be inserted once the contents of a range are removed.
 fn is_unplaceable(world: &World, start: Point, end: Point, common: NodeId, node: NodeId) -> bool
     requires whole { IsWhole world.now }
     requires range { IsRange world.now.tree.forest (record { start = start; end = end }) }
@@ -201,7 +201,7 @@ fn is_unplaceable(world: &World, start: Point, end: Point, common: NodeId, node:
     !world.tree.is_of_kind(node, Kind::Element) || is_refused(world, start, end, common, node)
 }
 
-/// `Ok` where `surround` will not be refused, else the name that it is refused with.
+/// Returns `Ok` if `surround` will succeed, or else the exception with which it will refuse.
 pub fn can_surround(world: &World, range: RangeId, node: NodeId) -> Result<(), DomError>
     requires whole { IsWhole world.now }
     requires held { IsSome (range_in world.now.ranges range) }

@@ -1,4 +1,4 @@
-//! A node that is inserted at the start of a live range (DOM Standard, "Interface Range", insertNode).
+//! Inserting a node at the start of a live range (DOM Standard, "Interface Range", insertNode).
 
 ghost use Rattle.std.specs.Prelude.{◌≡◌, ◌<◌, ◌≤◌, ℕ, length, true, None, Some, OnOk, IfOk, IsSome, MatchResult};
 ghost use Rattle.std.specs.Option.{ForSome};
@@ -25,7 +25,7 @@ use dom_ranges::RangeId;
 use dom_tree::NodeId;
 use std::alloc::{AllocError, Global};
 
-// Whether something may come in at a start: not in an instruction or comment, in no Text without a parent, and not in itself.
+// Returns whether nodes may be inserted at a start: not in an instruction, a comment, a Text without a parent, or the node itself.
 fn check_start(world: &World, start: Point, node: NodeId) -> Result<(), DomError>
     requires { HasNode world.now.tree.forest start.node }
     ensures { MatchResult result (λ _. check_start (unwatched world.now) start node
@@ -46,7 +46,7 @@ fn check_start(world: &World, start: Point, node: NodeId) -> Result<(), DomError
     Ok(())
 }
 
-// What comes after a point: the Text in which it stands, or the child at its offset; none at the end.
+// Returns the node after a point: its Text, or the child at its offset; none at the end.
 pub(crate) fn reference_at(world: &World, point: Point) -> Option<NodeId>
     requires { HasNode world.now.tree.forest point.node }
     ensures { result ≡ reference_at (unwatched world.now) point }
@@ -58,7 +58,7 @@ pub(crate) fn reference_at(world: &World, point: Point) -> Option<NodeId>
     world.tree.child_at(node, offset)
 }
 
-// The parent of what comes in at a point: that of the Text in which it stands, or its node.
+// Returns the parent of nodes inserted at a point: that of its Text, or its node.
 pub(crate) fn parent_at(world: &World, point: Point) -> NodeId
     requires whole { IsWhole world.now }
     requires held { HasNode world.now.tree.forest point.node }
@@ -72,7 +72,7 @@ pub(crate) fn parent_at(world: &World, point: Point) -> NodeId
     node
 }
 
-// The refusal of a node to come in at a start. Nothing after it is refused.
+// Checks an insertion at a start. No later step refuses.
 fn check(world: &World, start: Point, node: NodeId) -> Result<(), DomError>
     requires whole { IsWhole world.now }
     requires start_held { HasNode world.now.tree.forest start.node }
@@ -90,7 +90,7 @@ fn check(world: &World, start: Point, node: NodeId) -> Result<(), DomError>
     check_insert(&world.tree, parent, node, reference)
 }
 
-// Splits the Text in which a start stands, if it does, and answers what is then to come after.
+// Splits the Text in which a start is, if any, and returns the node before which to insert.
 fn reference_after(
     world: &mut World,
     alloc: Global,
@@ -116,7 +116,7 @@ fn reference_after(
     Ok(Some(new))
 }
 
-// The index before a child of a parent, or behind the last.
+// Returns the index of a parent's child, or the number of children.
 fn index_before(world: &World, parent: NodeId, reference: Option<NodeId>) -> usize
     requires parent_held { HasNode world.now.tree.forest parent }
     requires reference_held { ForSome reference (λ c. HasNode world.now.tree.forest c) }
@@ -128,7 +128,7 @@ fn index_before(world: &World, parent: NodeId, reference: Option<NodeId>) -> usi
     }
 }
 
-// How many nodes come in with a node: the children of a fragment, or the node alone.
+// Returns how many nodes are inserted: the children of a fragment, or the node alone.
 fn entering_count(world: &World, node: NodeId) -> usize
     requires { HasNode world.now.tree.forest node }
     ensures { result ≡ length (nodes_of (unwatched world.now) node) }
@@ -139,7 +139,7 @@ fn entering_count(world: &World, node: NodeId) -> usize
     1
 }
 
-// The offset behind what is to come in with a node that may come in, before a child of the parent or last.
+// Returns the offset after the inserted nodes, before a child of the parent or last.
 fn offset_past(world: &World, parent: NodeId, reference: Option<NodeId>, node: NodeId) -> usize
     requires whole { IsWhole world.now }
     requires parent_held { HasNode world.now.tree.forest parent }
@@ -154,7 +154,7 @@ fn offset_past(world: &World, parent: NodeId, reference: Option<NodeId>, node: N
     index + entering_count(world, node)
 }
 
-// Moves the end of a range that is collapsed.
+// Moves the end of a collapsed range.
 fn end_if_collapsed(world: &mut World, range: RangeId, end: Point)
     requires whole { IsWhole world.old }
     requires sound { MayEndAt world.old range end }
@@ -172,7 +172,7 @@ fn end_if_collapsed(world: &mut World, range: RangeId, end: Point)
     }
 }
 
-// Takes a node out of its parent and puts it in before a child, and the end of a range that is collapsed behind it.
+// Removes a node from its parent and inserts it before a child, and moves the end of a collapsed range after it.
 fn place(
     world: &mut World,
     alloc: Global,
@@ -207,7 +207,7 @@ fn place(
     Ok(())
 }
 
-// Inserts a node, or the children of a fragment, at the start of a live range, where that is not refused. Only a Text in which that start stands takes a number.
+// Inserts a node, or the children of a fragment, at the start of a live range, after its check has passed. Only a split Text takes a number.
 pub(crate) fn insert_at_start(
     world: &mut World,
     alloc: Global,
@@ -233,7 +233,7 @@ pub(crate) fn insert_at_start(
     place(world, alloc, range, node, parent, reference)
 }
 
-/// Inserts a node, or the children of a fragment, at the start of a live range. A Text in which that start stands is split.
+/// Inserts a node, or the children of a fragment, at the start of a live range. Splits the Text in which that start is.
 pub fn insert_node(
     world: &mut World,
     alloc: Global,

@@ -1,5 +1,5 @@
-//! Laws of what is put into and around a live range: of the edits that its steps make of the token texts, and of its checks. They follow
-//! from the definitions alone; nothing here runs.
+//! Laws of inserting into a live range and surrounding it: of the edits of the token texts, and of the checks. They follow from the definitions
+//! alone, and run nothing.
 
 ghost use Rattle.std.specs.Prelude.{◌≡◌, ℕ, Bool, false, List, None, option_map};
 ghost use Rattle.dom_model.specs.Forests.Forest.{HasNode, IsForest};
@@ -12,10 +12,9 @@ ghost use Rattle.dom_model.specs.TokenText.Tokens.{Edit, texts_of, gap_among, ma
 ghost use Rattle.dom_model.specs.TokenText.Edits.{all_on_world};
 ghost use Rattle.dom_model.specs.TokenText.Fitting.{Childless, IsReady, AllFit};
 
-/// A law: over any list of primitive edits each end of each live range stands where its marker stands. No node with data has children in
-/// the first world, and each edit fits the world that those before it left: that world is ready, as the last one is, and what the edit names
-/// is there. Afterwards the gap in which a marker stands is the gap of its end, and a range that was released or never made has no marker
-/// (ours; DOM Standard, "Live ranges").
+/// States a law: over any list of primitive edits, each end of each live range is where its marker is. No node with data has children in the first
+/// world, and each edit fits the world that those before it left. Afterwards a marker is in the gap of its end, and a range that was released or
+/// never made has no marker (ours; DOM Standard, "Live ranges").
 pub fn ends_stand_where_edits_put_their_markers()
     ensures gaps { (w : World) → (edits : List Edit) → Childless w.forest → AllFit w edits →
         IsReady (all_on_world edits w) → (r : ℕ) → (side : Bool) →
@@ -27,9 +26,9 @@ pub fn ends_stand_where_edits_put_their_markers()
         ≡ (all_on_world edits w).ranges }
 {}
 
-/// A law: an insertion at a point whose first two checks pass is not refused later. Where the point may take the node, and the node may come
-/// in there, the check of the insertion that follows passes too, in the world that the split of the Text and the removal of the node leave;
-/// so no step of the insertion is refused, whatever the live range (DOM Standard, "Interface Range": insert a node into a live range).
+/// States a law: an insertion whose first two checks pass is not refused later. If the point may take the node, and the node may be inserted there,
+/// the check of the insertion that follows passes too, in the world that the split of the Text and the removal of the node leave (DOM Standard,
+/// "Interface Range": insert a node into a live range).
 pub fn checked_insertions_are_not_refused()
     ensures check { (w : World) → IsForest (record { forest = w.forest; made = w.made }) → (n : ℕ) →
         HasNode w.forest n → (p : Point) →

@@ -1,4 +1,4 @@
-//! What is put around a live range and into it (DOM Standard, "Interface Range", insertNode, surroundContents).
+//! Inserting into a live range, and surrounding it (DOM Standard, "Interface Range", insertNode, surroundContents).
 #![tactic(auto)]
 
 mod allowing;

@@ -1,4 +1,4 @@
-//! A node that is put around the contents of a live range (DOM Standard, "Interface Range", surroundContents).
+//! Surrounding the contents of a live range (DOM Standard, "Interface Range", surroundContents).
 
 ghost use Rattle.std.specs.Prelude.{◌≡◌, ◌≤◌, None, OnOk, IsSome};
 ghost use Rattle.std.specs.Result.{IfErr};
@@ -22,7 +22,7 @@ use dom_ranges::RangeId;
 use dom_tree::NodeId;
 use std::alloc::{AllocError, Global};
 
-// Takes all children out of a node.
+// Removes all children of a node.
 fn remove_children(world: &mut World, alloc: Global, parent: NodeId) -> Result<(), AllocError>
     requires whole { IsWhole world.old }
     requires held { HasNode world.old.tree.forest parent }
@@ -49,7 +49,7 @@ fn select(world: &mut World, range: RangeId, node: NodeId)
     world.ranges.select_checked(&world.tree, range, node);
 }
 
-// Puts a node in at the start of a live range, what a fragment has into the node, and the range around it.
+// Inserts a node at the start of a live range, moves a fragment's children into the node, and sets the range around it.
 fn put_around(
     world: &mut World,
     alloc: Global,
@@ -73,7 +73,7 @@ fn put_around(
     Ok(())
 }
 
-// Surrounds the contents of a live range with a node, where no step of it is refused.
+// Surrounds the contents of a live range with a node, after `can_surround` has passed.
 fn surround_allowed(
     world: &mut World,
     alloc: Global,
@@ -96,9 +96,9 @@ fn surround_allowed(
     put_around(world, alloc, range, node, fragment)
 }
 
-/// Takes what lies in a live range into a node, puts that node in its place, and selects it.
+/// Moves the contents of a live range into a node, inserts that node in their place, and selects it.
 ///
-/// All or nothing: where a step of it would be refused, that name is answered and nothing has changed.
+/// All or nothing: if a step of it would be refused, returns that exception and changes nothing.
 pub fn surround(
     world: &mut World,
     alloc: Global,

@@ -4,7 +4,7 @@ use Rattle.std.specs.Io.KnownBytes.{Appends}
 use Rattle.std.proofs.KnownBytes.{Appends-trans}
 use Rattle.dom_serve.specs.{Streams.Writing, Calls.IsWritten, Writes.AppendsFront, Writes.Writes}
 use Rattle.dom_serve.proofs.Calls.{IsCalled-more}
-use Rattle.domserve.specs.Statuses.{SaysLine}
+use Rattle.domserve.specs.Messages.{SaysLine}
 
 -- the text was said whole, and then its newline, or that failed
 pub line-whole : {W T E : Type 0} (errors : Writing W) (old mid new : W) (text : List ℕ) (newline : Result T E)

@@ -1,6 +1,7 @@
--- The program's statuses, what it says of faults, and what it came to.
-use Rattle.std.specs.Prelude.{◌≡◌, ℕ, ◌^◌, Bool, true, false, ◌⊎◌, List, [], ◌∷◌, ◌++◌, Option, Err, IfSome, codes}
+-- The program's statuses, and what it came to.
+use Rattle.std.specs.Prelude.{◌≡◌, ℕ, ◌^◌, Bool, true, false, ◌⊎◌, List, [], Option, Err, IfSome}
 use Rattle.std.specs.Io.KnownBytes.{Appends}
+use Rattle.std.specs.declared.io.Error.{Error}
 use Rattle.dom_model.specs.Commands.Answer.{Bounds}
 use Rattle.dom_model.specs.Commands.Table.{whole_table}
 use Rattle.dom_model.specs.Commands.Output.{output_of}
@@ -11,49 +12,40 @@ use Rattle.dom_serve.specs.Writes.{AppendsFront}
 use Rattle.dom_serve.specs.Serves.{Serves}
 use Rattle.dom_serve.specs.declared.fault.Fault.{Fault}
 use Rattle.dom_serve.specs.declared.fault.Fault.TheVariants.{Read, Write, Memory, InputTooLong}
+use Rattle.domserve.specs.Messages.{is_silent}
 
--- ---- what it says of a fault, and by which status
+-- ---- the status of a fault
 
-abbrev pub text_of : Fault → List ℕ
-text_of Read = codes "domserve: read failed"
-text_of Write = codes "domserve: write failed"
-text_of Memory = codes "domserve: out of memory"
-text_of InputTooLong = codes "domserve: input too long"
+-- by whether the fault is silent
+abbrev pub status_at : Bool → Fault → ℕ
+status_at true fault = 141
+status_at false Read = 3
+status_at false Write = 3
+status_at false Memory = 1
+status_at false InputTooLong = 3
 
-abbrev pub status_of : Fault → ℕ
-status_of Read = 3
-status_of Write = 3
-status_of Memory = 1
-status_of InputTooLong = 3
+-- 1 out of memory, 141 at a closed pipe, and 3 otherwise
+abbrev pub status_of : Fault → Option Error → ℕ
+status_of fault reason = status_at (is_silent fault reason) fault
 
--- no call failed; or the last one did, and the status says so
-abbrev pub TellsFailure : ℕ → (Bool → Type 0) → Type 0
-TellsFailure status calls = calls false ⊎ ((status ≡ 3) × calls true)
+-- a status of a failed stream, or of an input that is too long
+abbrev pub IsFailure : ℕ → Type 0
+IsFailure status = (status ≡ 3) ⊎ (status ≡ 141)
 
--- a text was said whole, on a line of its own, and passed on
-abbrev pub SaysWholeLine : {E : Type 0} → Writing E → List ℕ → E → E → Type 0
-SaysWholeLine errors text old new =
-    Appends (errors.taken old) (errors.taken new) (text ++ 10 ∷ []) × IsWritten errors false old new
-    × (errors.is_passed_on new ≡ true)
+-- no read failed; or the last one did, and the status is 3
+abbrev pub TellsFailedRead : ℕ → (Bool → Type 0) → Type 0
+TellsFailedRead status calls = calls false ⊎ ((status ≡ 3) × calls true)
 
--- a write or a flush failed, and a front of the text and its newline was said
-abbrev pub SaysFront : {E : Type 0} → Writing E → List ℕ → E → E → Type 0
-SaysFront errors text old new =
-    AppendsFront (errors.taken old) (errors.taken new) (text ++ 10 ∷ []) × IsWritten errors true old new
+-- no write or flush failed; or the last one did, and the status says so
+abbrev pub TellsFailedWrite : ℕ → (Bool → Type 0) → Type 0
+TellsFailedWrite status calls = calls false ⊎ (IsFailure status × calls true)
 
--- a text was said on a line of its own, or that failed
-abbrev pub SaysLine : {E : Type 0} → Writing E → List ℕ → E → E → Type 0
-SaysLine errors text old new = SaysWholeLine errors text old new ⊎ SaysFront errors text old new
-
--- the text of a fault was said so
-abbrev pub SaysFault : {E : Type 0} → Writing E → E → E → Fault → Type 0
-SaysFault errors old new fault = SaysLine errors (text_of fault) old new
-
--- one fault has this status, was said, and is the one that the program came to
-pub record TellsFault (status : ℕ) (said came_to : Fault → Type 0) : Type 0 where
+-- one fault, with its reason, has this status, was said, and is the one that the program came to
+pub record TellsFault (status : ℕ) (reason : Fault → Option Error)
+    (said : Fault → Option Error → Type 0) (came_to : Fault → Type 0) : Type 0 where
   pub fault : Fault
-  pub status_is : status ≡ status_of fault
-  pub says : said fault
+  pub status_is : status ≡ status_of fault (reason fault)
+  pub says : said fault (reason fault)
   pub comes : came_to fault
 
 -- ---- what serving and helping come to

@@ -1,14 +1,16 @@
 //! The program: it serves standard input to standard output. README and `--help` tell its options.
 #![tactic(auto)]
 
+mod patient;
 mod running;
 #[cfg(test)]
 mod tests;
 
 use dom_serve::{FromRead, ToWrite, write_line};
+pub use patient::Patient;
 pub use running::{fault_text, run};
 use std::env;
-use std::io::ErrorKind;
+use std::io::{ErrorKind, IsTerminal};
 use std::process::ExitCode;
 
 fn main(rt: HostRuntime) -> ExitCode {
@@ -16,11 +18,11 @@ fn main(rt: HostRuntime) -> ExitCode {
     let words: Vec<String> = match env::args(&rt) {
         Ok(args) => match args.collect(rt.alloc()) {
             Ok(words) => words,
-            Err(_) => return ExitCode::from(running::without_memory(&mut errors)),
+            Err(_) => return ExitCode::from(running::without_memory(rt.alloc(), &mut errors)),
         },
         Err(error) => {
             if let ErrorKind::OutOfMemory = error.kind() {
-                return ExitCode::from(running::without_memory(&mut errors));
+                return ExitCode::from(running::without_memory(rt.alloc(), &mut errors));
             }
             let _ = write_line(
                 &mut errors,
@@ -29,11 +31,13 @@ fn main(rt: HostRuntime) -> ExitCode {
             return ExitCode::from(2);
         }
     };
-    let mut reader = FromRead::new(rt.stdin());
-    let mut writer = ToWrite::new(rt.stdout());
+    let is_terminal = rt.stdin().is_terminal();
+    let mut reader = FromRead::new(Patient::new(&rt, rt.stdin()));
+    let mut writer = ToWrite::new(Patient::new(&rt, rt.stdout()));
     ExitCode::from(run(
         rt.alloc(),
         words.as_slice(),
+        is_terminal,
         &mut reader,
         &mut writer,
         &mut errors,

@@ -1,19 +1,29 @@
 //! Serving as the words ask, and the status.
 
-ghost use Rattle.std.specs.Prelude.{◌≡◌, ◌≢◌, ◌≤◌, [], true, ◌⊎◌, IfErr, IfOk, IfSome, map};
+ghost use Rattle.std.specs.Prelude.{◌≡◌, ◌≢◌, ◌≤◌, [], true, false, None, ◌⊎◌, IfErr, IfOk, IfSome, map, string_bytes};
 ghost use Rattle.std.specs.Io.KnownBytes.{Appends};
+ghost use Rattle.std.specs.IoError.{error_kind};
 ghost use Rattle.dom_serve.specs.Calls.{HasPassedOn, IsRead, IsWritten};
 ghost use Rattle.dom_serve.specs.Limits.{bounds_of};
 ghost use Rattle.dom_options.specs.CommandLine.{IsInRange, TellsOf, asks_for_help, bounds_asked, faults_in, has_mistake};
 ghost use Rattle.dom_serve.specs.declared.fault.Fault.TheVariants as faults;
-ghost use Rattle.domserve.specs.Statuses.{text_of, status_of, IsServed, SaysLine, SaysFault, IsCutOff, ServesUpTo, IsServedAsAsked, IsHelped, CameTo, TellsFailure, TellsFault};
+ghost use Rattle.domserve.specs.Messages.{text_of, is_broken_pipe, is_silent, reason_of, IsBecause, SaysLine, SaysBecause, SaysFault, MayHint, SaysHintAndFault};
+ghost use Rattle.domserve.specs.Statuses.{status_at, status_of, IsFailure, TellsFailedRead, TellsFailedWrite, TellsFault, IsServed, IsCutOff, ServesUpTo, IsServedAsAsked, IsHelped, CameTo};
 
 use dom_options::{Refusal, asked_from};
-use dom_serve::{Failed, Fault, Limits, Sink, Source, serve, write_line};
-use std::alloc::Global;
+use dom_serve::{Failed, Fault, LastError, Limits, Sink, Source, serve, write_line};
+use std::alloc::{AllocError, Global};
 use std::convert::AsStr;
+use std::io::{Error, ErrorKind};
 
-/// What is said of a fault on standard error, without its newline.
+/// The status if nobody reads the output any more: a shell's for a program that the signal SIGPIPE has ended, 128 + 13.
+const CLOSED_PIPE: u8 = 141;
+
+/// The line for a user at a terminal.
+const HINT: &str =
+    "domserve reads one JSON command a line, as [\"createElement\",0,\"p\"]; domserve --help has more, and Ctrl-D ends it";
+
+/// Returns the first words of a fault's message.
 pub fn fault_text(fault: &Fault) -> &'static str
     ensures { result.now ≡ text_of fault.now }
 {
@@ -25,8 +35,9 @@ pub fn fault_text(fault: &Fault) -> &'static str
     }
 }
 
+/// Returns the status of a fault that has a message.
 fn fault_status(fault: &Fault) -> u8
-    ensures { result ≡ status_of fault.now }
+    ensures { result ≡ status_at false fault.now }
 {
     match fault {
         Fault::Memory => 1,
@@ -34,7 +45,37 @@ fn fault_status(fault: &Fault) -> u8
     }
 }
 
-/// Says a text on a line of its own; that this fails is not told.
+/// Returns the error of the stream that failed.
+fn reason_of<R: LastError, W: LastError>(fault: &Fault, reader: &R, writer: &W) -> Option<Error>
+    ensures { result ≡ reason_of fault.now (R.error reader.now) (W.error writer.now) }
+{
+    match fault {
+        Fault::Read => reader.last_error(),
+        Fault::Write => writer.last_error(),
+        Fault::Memory | Fault::InputTooLong => None,
+    }
+}
+
+fn is_broken_pipe(error: &Error) -> bool
+    ensures { result ≡ is_broken_pipe (error_kind error.now) }
+{
+    if let ErrorKind::BrokenPipe = error.kind() {
+        return true;
+    }
+    false
+}
+
+/// Returns whether a write failed because nobody reads the output any longer.
+fn is_silent(fault: &Fault, reason: &Option<Error>) -> bool
+    ensures { result ≡ is_silent fault.now reason.now }
+{
+    match (fault, reason) {
+        (Fault::Write, Some(error)) => is_broken_pipe(error),
+        _ => false,
+    }
+}
+
+/// Writes a text on a line of its own, and ignores a failure.
 fn say_line<E: Sink>(errors: &mut E, text: &[u8])
     ensures { SaysLine E.writing text.now errors.old errors.new }
 {
@@ -44,24 +85,68 @@ fn say_line<E: Sink>(errors: &mut E, text: &[u8])
     let _ = write_line(errors, b"\n");
 }
 
-/// Says the fault, and gives its status.
-fn faulted<E: Sink>(errors: &mut E, fault: &Fault) -> u8
-    ensures status { result ≡ status_of fault.now }
-    ensures says { SaysFault E.writing errors.old errors.new fault.now }
+/// Writes the hint for a user at a terminal.
+fn say_hint<E: Sink>(is_terminal: bool, errors: &mut E)
+    ensures { MayHint E.writing is_terminal HINT.now errors.old errors.new }
 {
-    say_line(errors, fault_text(fault).as_bytes());
+    if is_terminal {
+        say_line(errors, HINT.as_bytes());
+    }
+}
+
+/// Returns an error's text without its number.
+fn without_number(text: &str) -> &str {
+    match text.split_once(" (os error ") {
+        Some((front, _)) => front,
+        None => text,
+    }
+}
+
+/// Returns a text with the reason behind it.
+fn message(alloc: Global, text: &str, reason: &Error) -> Result<String, AllocError>
+    ensures { IfOk result (λ message. IsBecause text.now (string_bytes message)) }
+{
+    let mut message = String::from_str(alloc, text)?;
+    message.push_str(": ")?;
+    let why = reason.to_string(alloc)?;
+    message.push_str(without_number(why.as_str()))?;
+    Ok(message)
+}
+
+/// Writes a text on a line of its own, with the reason behind it if there is memory for that.
+fn say_because<E: Sink>(alloc: Global, errors: &mut E, text: &str, reason: &Option<Error>)
+    ensures { SaysBecause E.writing text.now reason.now errors.old errors.new }
+{
+    if let Some(error) = reason {
+        if let Ok(message) = message(alloc, text, error) {
+            say_line(errors, message.as_bytes());
+            return;
+        }
+    }
+    say_line(errors, text.as_bytes());
+}
+
+/// Writes the message of a fault, and returns its status. A closed pipe has no message.
+fn faulted<E: Sink>(alloc: Global, errors: &mut E, fault: &Fault, reason: Option<Error>) -> u8
+    ensures status { result ≡ status_of fault.now reason }
+    ensures says { SaysFault E.writing errors.old errors.new fault.now reason }
+{
+    if is_silent(fault, &reason) {
+        return CLOSED_PIPE;
+    }
+    say_because(alloc, errors, fault_text(fault), &reason);
     fault_status(fault)
 }
 
-/// Says that memory was wanting, and gives its status.
-pub(crate) fn without_memory<E: Sink>(errors: &mut E) -> u8
+/// Writes that memory has run out, and returns the status.
+pub(crate) fn without_memory<E: Sink>(alloc: Global, errors: &mut E) -> u8
     ensures status { result ≡ 1 }
-    ensures says { SaysFault E.writing errors.old errors.new faults.Memory }
+    ensures says { SaysFault E.writing errors.old errors.new faults.Memory None }
 {
-    faulted(errors, &Fault::Memory)
+    faulted(alloc, errors, &Fault::Memory, None)
 }
 
-fn served<R: Source, W: Sink, E: Sink>(
+fn served<R: Source + LastError, W: Sink + LastError, E: Sink>(
     alloc: Global,
     limits: Limits,
     reader: &mut R,
@@ -69,40 +154,49 @@ fn served<R: Source, W: Sink, E: Sink>(
     errors: &mut E,
 ) -> u8
     requires limits { IsInRange (bounds_of limits) }
-    ensures range { (result ≤ 1) ⊎ (result ≡ 3) }
+    ensures range { (result ≤ 1) ⊎ IsFailure result }
     ensures served { result ≡ 0 → IfSome (R.reading.left reader.old)
         (IsServed (bounds_of limits) (W.writing.taken writer.old) (W.writing.taken writer.new)) }
     ensures silent { result ≡ 0 → errors.new ≡ errors.old }
     ensures told { result ≢ 0 → TellsFault result
+        (λ fault. reason_of fault (R.error reader.new) (W.error writer.new))
         (SaysFault E.writing errors.old errors.new)
         (ServesUpTo R.reading W.writing (bounds_of limits)
         reader.old reader.new writer.old writer.new) }
-    ensures passed { result ≢ 3 → HasPassedOn W.writing writer.old writer.new }
-    ensures reader { TellsFailure result (λ failed. IsRead R.reading failed reader.old reader.new) }
-    ensures writer { TellsFailure result (λ failed.
+    ensures passed { (IsFailure result → ⊥) → HasPassedOn W.writing writer.old writer.new }
+    ensures reader { TellsFailedRead result (λ failed. IsRead R.reading failed reader.old reader.new) }
+    ensures writer { TellsFailedWrite result (λ failed.
         IsWritten W.writing failed writer.old writer.new) }
 {
     match serve(alloc, limits, reader, writer) {
         Ok(_) => 0,
-        Err(fault) => faulted(errors, &fault),
+        Err(fault) => {
+            let reason = reason_of(&fault, reader, writer);
+            faulted(alloc, errors, &fault, reason)
+        }
     }
 }
 
-fn helped<W: Sink, E: Sink>(text: &str, writer: &mut W, errors: &mut E) -> u8
-    ensures range { (result ≡ 0) ⊎ (result ≡ 3) }
+fn helped<W: Sink + LastError, E: Sink>(
+    alloc: Global,
+    text: &str,
+    writer: &mut W,
+    errors: &mut E,
+) -> u8
+    ensures range { (result ≡ 0) ⊎ IsFailure result }
     ensures helped { result ≡ 0 →
         Appends (W.writing.taken writer.old) (W.writing.taken writer.new) text.now }
     ensures silent { result ≡ 0 → errors.new ≡ errors.old }
-    ensures told { result ≢ 0 → TellsFault result
-        (SaysFault E.writing errors.old errors.new)
-        (IsCutOff W.writing writer.old writer.new) }
-    ensures passed { result ≢ 3 → HasPassedOn W.writing writer.old writer.new }
-    ensures writer { TellsFailure result (λ failed.
+    ensures told { result ≢ 0 → (result ≡ status_of faults.Write (W.error writer.new))
+        × SaysFault E.writing errors.old errors.new faults.Write (W.error writer.new)
+        × IsCutOff W.writing writer.old writer.new faults.Write }
+    ensures passed { (IsFailure result → ⊥) → HasPassedOn W.writing writer.old writer.new }
+    ensures writer { TellsFailedWrite result (λ failed.
         IsWritten W.writing failed writer.old writer.new) }
 {
     match write_line(writer, text.as_bytes()) {
         Ok(()) => 0,
-        Err(Failed) => faulted(errors, &Fault::Write),
+        Err(Failed) => faulted(alloc, errors, &Fault::Write, writer.last_error()),
     }
 }
 
@@ -122,17 +216,19 @@ fn limits_from<S: AsStr>(alloc: Global, words: &[S]) -> Result<Limits, Refusal>
     }
 }
 
-/// Serves the reader to the writer as the words ask, the program's name first, and gives the program's status: 0 at the end
-/// of the input or after help, 1 for want of memory, 2 where the words are refused, 3 where a read, a write or a flush
-/// failed or the input was too long. What went wrong is said on `errors`.
-pub fn run<S: AsStr, R: Source, W: Sink, E: Sink>(
+/// Serves the reader to the writer as the words ask, the program's name first, and returns the program's status: 0 at the end
+/// of the input or after help, 1 out of memory, 2 if the words are refused, 3 if a read, a write or a flush failed or the
+/// input was too long, 141 if nobody reads the output any longer. A fault of status 1 or 3 has a message on `errors`. If the
+/// reader is a terminal, a hint is written there first.
+pub fn run<S: AsStr, R: Source + LastError, W: Sink + LastError, E: Sink>(
     alloc: Global,
     words: &[S],
+    is_terminal: bool,
     reader: &mut R,
     writer: &mut W,
     errors: &mut E,
 ) -> u8
-    ensures range { result ≤ 3 }
+    ensures range { (result ≤ 2) ⊎ IsFailure result }
 
     // At status 0 the output was written as the words ask, or they ask for help, which was written.
     ensures served { result ≡ 0 →
@@ -145,35 +241,43 @@ pub fn run<S: AsStr, R: Source, W: Sink, E: Sink>(
     ensures refused { result ≡ 2 → (has_mistake (faults_in (map S.text words.now)) ≡ true)
         × (reader.new ≡ reader.old) × (writer.new ≡ writer.old) }
 
-    // At status 3 clap finds no fault in the words, or they ask for help: a mistake is no failure
-    // of a stream.
-    ensures failed { result ≡ 3 → (faults_in (map S.text words.now) ≡ [])
+    // At status 3 and 141 clap finds no fault in the words, or they ask for help: a mistake is no
+    // failure of a stream.
+    ensures failed { IsFailure result → (faults_in (map S.text words.now) ≡ [])
         ⊎ (asks_for_help (faults_in (map S.text words.now)) ≡ true) }
 
-    // At status 0 nothing was said on `errors`.
-    ensures silent { result ≡ 0 → errors.new ≡ errors.old }
+    // At status 0 nothing was said on `errors`, but for the hint at a terminal.
+    ensures silent { result ≡ 0 →
+        MayHint E.writing is_terminal HINT.now errors.old errors.new }
 
-    // At status 1 and 3 the program came to one fault of that status, and said its text.
+    // At status 1, 3 and 141 the program came to one fault of that status. It said the fault's text,
+    // and the reason of the stream that failed; of a closed pipe it said nothing.
     ensures told { result ≢ 0 → result ≢ 2 → TellsFault result
-        (SaysFault E.writing errors.old errors.new)
+        (λ fault. reason_of fault (R.error reader.new) (W.error writer.new))
+        (SaysHintAndFault E.writing is_terminal HINT.now errors.old errors.new)
         (CameTo R.reading W.writing (map S.text words.now)
         reader.old reader.new writer.old writer.new) }
 
-    // Unless the status is 3, all that was written has been passed on.
-    ensures passed { result ≢ 3 → HasPassedOn W.writing writer.old writer.new }
+    // Unless the status is 3 or 141, all that was written has been passed on.
+    ensures passed { (IsFailure result → ⊥) → HasPassedOn W.writing writer.old writer.new }
 
-    // After a failed read, write or flush the status is 3, and nothing is asked of what failed.
-    ensures reader { TellsFailure result (λ failed. IsRead R.reading failed reader.old reader.new) }
-    ensures writer { TellsFailure result (λ failed.
+    // After a failed read the status is 3, after a failed write or flush 3 or 141, and nothing is
+    // asked of what failed.
+    ensures reader { TellsFailedRead result (λ failed.
+        IsRead R.reading failed reader.old reader.new) }
+    ensures writer { TellsFailedWrite result (λ failed.
         IsWritten W.writing failed writer.old writer.new) }
 {
     match limits_from(alloc, words) {
-        Ok(limits) => served(alloc, limits, reader, writer, errors),
-        Err(Refusal::Help(text)) => helped(&text, writer, errors),
+        Ok(limits) => {
+            say_hint(is_terminal, errors);
+            served(alloc, limits, reader, writer, errors)
+        }
+        Err(Refusal::Help(text)) => helped(alloc, &text, writer, errors),
         Err(Refusal::Mistake(text)) => {
             let _ = write_line(errors, text.as_bytes());
             2
         }
-        Err(Refusal::Memory) => without_memory(errors),
+        Err(Refusal::Memory) => without_memory(alloc, errors),
     }
 }

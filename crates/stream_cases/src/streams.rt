@@ -1,6 +1,6 @@
 //! The reader and the writer made of std's.
 
-use dom_serve::{Failed, FromRead, Sink, Source, ToWrite};
+use dom_serve::{Failed, FromRead, LastError, Sink, Source, ToWrite};
 use std::io::{self, Read, Write};
 use std::test::Fail;
 
@@ -92,6 +92,29 @@ fn a_read_after_one_that_failed_is_made(rt: HostRuntime) {
     let mut buffer = [0u8; 2];
     assert_eq!(rt; reader.read(&mut buffer), Err(Failed));
     assert_eq!(rt; reader.read(&mut buffer), Ok(0));
+}
+
+// Whether the kept error is of this kind.
+fn is_kept(error: Option<io::Error>, kind: io::ErrorKind) -> bool {
+    match error {
+        Some(error) => error.kind() == kind,
+        None => false,
+    }
+}
+
+#[test]
+fn the_last_error_is_kept(rt: HostRuntime) {
+    let mut writer = ToWrite::new(Full);
+    assert!(rt; writer.last_error().is_none());
+    assert_eq!(rt; writer.write(b"a"), Err(Failed));
+    assert!(rt; is_kept(writer.last_error(), io::ErrorKind::WriteZero));
+    let mut reader = FromRead::new(FailsOnce { calls: 0 });
+    let mut buffer = [0u8; 2];
+    assert!(rt; reader.last_error().is_none());
+    assert_eq!(rt; reader.read(&mut buffer), Err(Failed));
+    assert!(rt; is_kept(reader.last_error(), io::ErrorKind::Other));
+    assert_eq!(rt; reader.read(&mut buffer), Ok(0));
+    assert!(rt; is_kept(reader.last_error(), io::ErrorKind::Other));
 }
 
 // No clause says that a flush reaches the std writer.

@@ -129,7 +129,7 @@ fn make_room(tree: &mut Tree<u32>, parent: NodeId) -> Result<bool, AllocError> {
     if !tree.holds(parent) {
         return Ok(false);
     }
-    tree.make_room(parent)?;
+    tree.make_room_for(parent, 0)?;
     Ok(true)
 }
 

@@ -8,6 +8,7 @@ import {
   attributesKept,
   converted,
   convertible,
+  createComment,
   documentOf,
   Element,
   HTML,
@@ -43,6 +44,7 @@ function valueNow(its, { namespace, local }) {
 /** What an Attr knows: its name, its element or none, and its value where it has none. */
 class AttrIs {
   element = null;
+  standIn = null;
 
   constructor(document, name, value) {
     this.document = document;
@@ -60,7 +62,7 @@ const attrOf = (it) => thingOf(it, AttrIs);
 const isAttr = (it) => attrOf(it) !== undefined;
 
 alsoTarget(isAttr);
-otherNodes(isAttr);
+otherNodes(isAttr, standInOf);
 
 // ---- The Attr objects that were asked for, of each element, by namespace and local name.
 
@@ -101,6 +103,16 @@ function byQualified(element, qualified) {
 function byNamespace(element, namespace, local) {
   const its = namespace === "" ? null : namespace;
   return attributeNames(element).find((name) => name.namespace === its && name.local === local);
+}
+
+/** The node of the core that is in an Attr's place in ranges and for observers: a comment, which is as long, has no parent, and takes no children. */
+function standInOf(attr) {
+  const its = attrOf(attr);
+  if (its.standIn === null) {
+    its.standIn = createComment(its.element ? documentOf(its.element) : its.document, "");
+    keptOf(its.standIn).standsFor = attr;
+  }
+  return its.standIn;
 }
 
 const orNull = (element, name) => (name ? attrFor(element, name) : null);

@@ -15,9 +15,10 @@ export {
   names as attributeNames,
 } from "../elements.js";
 export { DocumentFragment, Document, newDocument, xmlIs } from "../documents.js";
+export { after } from "../following.js";
 export { HTML, small, SVG, XML, XMLNS } from "../names.js";
-export { wanted } from "../libraries.js";
-export { adoptNode, contentsOf, dataOf, documentOf, emptyContents, nameKnown, nameOf, Node, parentOf } from "../nodes.js";
+export { Missing, wanted } from "../libraries.js";
+export { adoptNode, contentsOf, createComment, dataOf, documentOf, emptyContents, nameKnown, nameOf, Node, parentOf } from "../nodes.js";
 export { htmlCollection, numbersIn, stillNodeList } from "../lists.js";
 export { serializeInner } from "../serializing.js";
 export { addMembers, convertible, converted, known, makeInterface, otherNodes, refuseType } from "../webidl.js";

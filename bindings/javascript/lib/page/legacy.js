@@ -14,7 +14,7 @@ function indexOf(key) {
  * The traps of such an object. What it knows has `length` and `at(index)` where it has indices, and `names()`, `named(name)` where it has names, with
  * `setNamed` and `deleteNamed` where those are for writing; `isOverriding` where its names come before what the interface has.
  */
-class Traps {
+export class Traps {
   #its;
 
   constructor(its) {

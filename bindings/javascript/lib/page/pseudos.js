@@ -60,7 +60,7 @@ const languageOf = (element) => element.getAttributeNS(XML, "lang") ?? (element.
 function isIn(element, ranges) {
   let said = null;
   for (let it = element; it && said === null; it = it.parentElement) said = languageOf(it);
-  return said !== null && ranges.some((range) => isWithinRange(said, range));
+  return said !== null && [...ranges].some((range) => isWithinRange(said, range));
 }
 
 const STRONG = /[\p{Script=Hebrew}\p{Script=Arabic}\p{Script=Syriac}\p{Script=Thaana}\p{Script=Nko}]|\p{L}/u;

@@ -1,5 +1,6 @@
 /** Selectors: what a text means, by selectors/parsing.js and selectors/matching.js, and where elements that fit are looked for. */
 import {
+  after,
   DOCUMENT,
   documentKnown,
   documentOf,
@@ -8,39 +9,54 @@ import {
   elementsOfName,
   isOfKind,
   itsOf,
+  Missing,
   numbersIn,
   realmOf,
   refuse,
   rootOf,
+  small,
   stillNodeList,
   wrap,
 } from "./core.js";
-import { listTest, nodeAfter, Question } from "./selectors/matching.js";
-import { parseSelector } from "./selectors/parsing.js";
-import { NoSelector } from "./selectors/scanner.js";
+import { NoSelector, readSelector } from "./selectors/reading.js";
+import { askFrom, plainTest, testOf } from "./selectors/rules.js";
 
 // ---- Selectors that were read, and are kept.
 
 const MOST = 1000;
 const kept = new Map();
 
+/** A name, an id or a class alone. */
+const PLAIN = /^[ \t\n\f\r]*([#.]?)(-?[a-zA-Z_][\w-]*)[ \t\n\f\r]*$/;
+const WORDS = { "#": "id", ".": "class" };
+
+function plainRule(text) {
+  const [, sign, name] = PLAIN.exec(text) ?? [];
+  if (name === undefined) return null;
+  return sign === "" ? { type: "tag", name, namespace: null } : { type: "attribute", name: WORDS[sign], value: name, ignoreCase: "quirks" };
+}
+
 /** The id, the class or the name that each element has which a selector finds, if there is one. */
 function handleOf(list, { isHtml, isQuirky }) {
   if (list.length !== 1) return null;
-  const { simple } = list[0].at(-1);
-  const of = (type) => simple.find((it) => it.type === type);
-  const type = of("type");
-  const isPlain = type && type.namespace === undefined && type.name !== "*" && (!isHtml || type.name === type.small);
-  return (isQuirky ? null : of("id")) ?? of("class") ?? (isPlain ? type : null);
+  const simple = list[0].slice(list[0].findLastIndex((it) => COMBINATORS.has(it.type)) + 1);
+  const word = (name) => simple.find((it) => it.ignoreCase === "quirks" && it.name === name);
+  const type = simple.find((it) => it.type === "tag" && it.namespace === null && (!isHtml || it.name === small(it.name)));
+  const [id, its] = [isQuirky ? undefined : word("id"), word("class")];
+  if (id) return { type: "id", name: id.value };
+  return its ? { type: "class", name: its.value } : (type ?? null);
 }
+
+const COMBINATORS = new Set(["child", "descendant", "adjacent", "sibling"]);
 
 class Selector {
   constructor(text, mode) {
-    const list = parseSelector(text);
-    this.test = listTest(list, mode);
+    const plain = plainRule(text);
+    const list = plain ? [[plain]] : readSelector(text);
     this.handle = handleOf(list, mode);
+    this.test = plain ? plainTest(plain, mode) : testOf(list, mode);
     /** Whether nothing but the handle is asked. */
-    this.isHandle = this.handle !== null && list[0].length === 1 && list[0][0].simple.length === 1;
+    this.isHandle = this.handle !== null && list[0].length === 1;
   }
 }
 
@@ -48,8 +64,9 @@ function made(text, mode) {
   try {
     return new Selector(text, mode);
   } catch (fault) {
-    if (!(fault instanceof NoSelector)) throw fault;
-    return refuse("SyntaxError", `'${text}' is no selector: ${fault.message}`);
+    if (fault instanceof NoSelector) return refuse("SyntaxError", `'${text}' is no selector: ${fault.message}`);
+    if (fault instanceof Missing) return refuse("NotSupportedError", fault.message);
+    throw fault;
   }
 }
 
@@ -92,29 +109,28 @@ function isBelow(its, node) {
 }
 
 /** The element that has an id and fits below a node, as a list of one or of none; undefined if ids do not tell. */
-function withId(node, selector, question) {
+function withId(node, selector) {
   const found = byId(node, selector);
   if (found === undefined) return undefined;
-  return found !== null && isBelow(found, node) && selector.test(found, question) ? [found.object] : [];
+  return found !== null && isBelow(found, node) && selector.test(found) ? [found.object] : [];
 }
 
 /** The first elements below a node that fit, so many at most. */
-function fitting(root, selector, question, most) {
+function fitting(root, { test }, most) {
   const found = [];
-  const { test } = selector;
-  for (let it = nodeAfter(root, root); it !== null; it = nodeAfter(it, root)) {
-    if (it.kind === ELEMENT && test(it, question) && found.push(it.object) === most) return found;
+  for (let it = after(root, root); it !== null; it = after(it, root)) {
+    if (it.kind === ELEMENT && test(it) && found.push(it.object) === most) return found;
   }
   return found;
 }
 
 /** The elements of a list that fit. */
-function among(node, numbers, { test, isHandle }, question) {
+function among(node, numbers, { test, isHandle }) {
   const { session } = itsOf(node);
   const found = [];
   for (const number of numbers) {
     const object = wrap(session, number);
-    if (isHandle || test(itsOf(object), question)) found.push(object);
+    if (isHandle || test(itsOf(object))) found.push(object);
   }
   return found;
 }
@@ -122,30 +138,32 @@ function among(node, numbers, { test, isHandle }, question) {
 function querySelector(node, text) {
   const selector = compiled(node, text);
   const root = itsOf(node);
-  const question = new Question(root);
-  const found = withId(node, selector, question) ?? fitting(root, selector, question, 1);
+  askFrom(root);
+  const found = withId(node, selector) ?? fitting(root, selector, 1);
   return found[0] ?? null;
 }
 
 function querySelectorAll(node, text) {
   const selector = compiled(node, text);
   const root = itsOf(node);
-  const question = new Question(root);
+  askFrom(root);
   const numbers = byList(node, selector);
-  const found = numbers ? among(node, numbers, selector, question) : (withId(node, selector, question) ?? fitting(root, selector, question, Infinity));
+  const found = numbers ? among(node, numbers, selector) : (withId(node, selector) ?? fitting(root, selector, Infinity));
   return stillNodeList(realmOf(node), found);
 }
 
 function matches(element, text) {
   const its = itsOf(element);
-  return compiled(element, text).test(its, new Question(its));
+  const { test } = compiled(element, text);
+  askFrom(its);
+  return test(its);
 }
 
 function closest(element, text) {
   const { test } = compiled(element, text);
   const its = itsOf(element);
-  const question = new Question(its);
-  for (let it = its; it !== null && it.kind === ELEMENT; it = it.parent()) if (test(it, question)) return it.object;
+  askFrom(its);
+  for (let it = its; it !== null && it.kind === ELEMENT; it = it.parent()) if (test(it)) return it.object;
   return null;
 }
 

@@ -35,6 +35,44 @@ const nodes = {
     },
     [[20, 20], [10, 10], false, false, false],
   ],
+  "an Attr is an end of a range, and is observed": [
+    ({ document, MutationObserver }, attempt) => {
+      const element = document.body.appendChild(document.createElement("p"));
+      element.setAttribute("title", "x");
+      const attr = element.getAttributeNode("title");
+      const range = document.createRange();
+      const refused = ["selectNode", "setStartBefore", "setStartAfter", "setEndBefore", "setEndAfter"].map((name) => attempt(() => range[name](attr)));
+      refused.push(attempt(() => range.setStart(attr, 1)));
+      range.setStart(attr, 0);
+      const ends = () => [range.startContainer, range.endContainer, range.commonAncestorContainer].map((it) => it === attr);
+      const said = [ends(), range.startOffset, range.endOffset, range.collapsed, `${range}`, range.intersectsNode(attr), range.intersectsNode(element)];
+      said.push(range.isPointInRange(attr, 0), range.isPointInRange(element, 0), attempt(() => range.comparePoint(element, 0)), range.comparePoint(attr, 0));
+      said.push(range.cloneContents().childNodes.length, attempt(() => range.insertNode(document.createElement("b"))), range.cloneRange().startContainer === attr);
+      range.setEnd(element, 0);
+      said.push(ends());
+      range.selectNodeContents(attr);
+      said.push(ends(), range.endOffset);
+      const observer = new MutationObserver(() => {});
+      said.push(attempt(() => observer.observe(attr, {})), attempt(() => observer.observe(attr, { attributes: true, subtree: true })));
+      attr.value = "y";
+      return [refused, said, observer.takeRecords().length];
+    },
+    [
+      ["InvalidNodeTypeError", "InvalidNodeTypeError", "InvalidNodeTypeError", "InvalidNodeTypeError", "InvalidNodeTypeError", "IndexSizeError"],
+      [[true, true, true], 0, 0, true, "", true, false, true, false, "WrongDocumentError", 0, 0, "HierarchyRequestError", true, [false, false, false], [true, true, true], 0, "TypeError", null],
+      0,
+    ],
+  ],
+  "names of controls are names of their form": [
+    ({ document }) => {
+      document.body.innerHTML = "<form><input name=a><input id=b><button name=c></button><input name=title></form><input name=d>";
+      const [form] = document.forms;
+      const names = ["a", "b", "c", "d", "title", "action", "0", "9"].map((name) => name in form);
+      form.firstChild.name = "e";
+      return [names, "e" in form, Object.hasOwn(form, "e"), Object.keys(form), Object.getPrototypeOf(form) === form.constructor.prototype, form.e === form.firstChild];
+    },
+    [[true, true, true, false, true, true, true, false], true, true, ["0", "1", "2", "3"], true, true],
+  ],
   "an Attr is imported as a copy, and adopted itself": [
     ({ document }) => {
       const element = document.createElement("div");

@@ -23,7 +23,7 @@ export function skipWithout(...names) {
 }
 
 /** The packages that a page needs for all that it does. */
-export const NEEDED = ["parse5", "saxes", "cssstyle", "w3c-xmlserializer"];
+export const NEEDED = ["parse5", "saxes", "cssstyle", "w3c-xmlserializer", "css-select"];
 
 export const WINDOWS = {
   page: async (html = EMPTY) => (await import("../../lib/page/index.js")).createPage(html, { url: ADDRESS }),

@@ -1,4 +1,4 @@
-// Selectors beside what browsers all do alike (selector_answers.js): what the standard says further, and that they need no library.
+// Selectors beside what browsers all do alike (selector_answers.js): what the standard says further, and which of them need a library.
 import assert from "node:assert/strict";
 import { spawnSync } from "node:child_process";
 import { fileURLToPath } from "node:url";
@@ -21,19 +21,26 @@ test("languages are found by lists, strings and extended ranges (Selectors 4, se
   assert.deepEqual(["p:lang('*-CH')", "p:lang(de-ch)", "p:lang(fr, en)", "p:lang('')", "p:lang(de-DE)"].map(count), [1, 1, 1, 1, 0]);
 });
 
-test("selectors need no library", { skip: skipWithout("parse5") }, () => {
+test("names, ids and classes need no library; another selector names the package that it needs", { skip: skipWithout("parse5") }, () => {
   const program = `
     const { Module } = await import("node:module");
     const { _load } = Module;
     Module._load = (name, ...rest) => {
-      if (/css|nwsapi/.test(name)) throw new Error(name);
+      if (/css|nth/.test(name)) throw new Error(name);
       return _load(name, ...rest);
     };
     const { createPage } = await import(${JSON.stringify(PAGE)});
-    const { document } = createPage("<p class=a>1</p><b>2</b>");
-    console.log(document.querySelector("b").textContent, document.querySelectorAll("p.a:first-child + b, #x").length);`;
+    const { document } = createPage("<p class=a>1</p><b id=x>2</b><!--c-->");
+    const texts = ["b", " B ", "#x", ".a", "p.a"];
+    for (const text of texts) {
+      try {
+        console.log(document.querySelector(text).textContent, document.querySelectorAll(text).length, document.body.firstChild.matches(text));
+      } catch ({ name, message }) {
+        console.log(name, message.match(/npm install [\\w-]+/)[0]);
+      }
+    }`;
   const ran = spawnSync(process.execPath, ["--input-type=module", "-e", program], { encoding: "utf8" });
-  assert.equal(`${ran.stdout}${ran.stderr}`, "2 1\n");
+  assert.equal(`${ran.stdout}${ran.stderr}`, "2 1 false\n2 1 false\n2 1 false\n1 1 true\nNotSupportedError npm install css-what\n");
 });
 
 test("a selector that nests deeply, and one of many parts", { skip }, () => {
@@ -41,6 +48,23 @@ test("a selector that nests deeply, and one of many parts", { skip }, () => {
   const nested = (depth) => `${":not(".repeat(depth)}b${")".repeat(depth)}`;
   assert.equal(document.querySelectorAll(`p${nested(101)}`).length, 1);
   assert.equal(document.querySelectorAll(Array(2000).fill("b").concat("p").join()).length, 1);
+});
+
+test("a part that is no selector is forgiven where lists are (Selectors 4, section 18)", { skip }, () => {
+  const { document } = createPage("<p class=x>1</p><p>2<b></b></p>");
+  const count = (text) => document.querySelectorAll(text).length;
+  assert.deepEqual([":is(1a, p)", ":is((a), p)", ":is({p, p}, b)", ":is([p,p], b)", ":where(], b)", ":is(:has(:has(b)), b)", ":is()"].map(count), [2, 2, 1, 1, 1, 1, 0]);
+  assert.deepEqual(["./**/x", "p:/**/first-child", "p::before:hover", ":has(:is(:has(b), b))", ":nth-child(2 of.x, p)"].map(count), [1, 1, 0, 3, 1]);
+  for (const text of ["::before:first-child", "::before::after", ":not(::before)", ":alength", ":nth-of-type(1 of p)", ":nth-child(2n1)", ":host(a, b)", "::constructor(x)"]) {
+    assert.throws(() => count(text), { name: "SyntaxError" }, text);
+  }
+});
+
+test("positions are counted by a type's namespace too (Selectors 4, section 13.4)", { skip }, () => {
+  const { document } = createPage("");
+  for (const namespace of ["urn:one", "urn:two", "urn:one"]) document.body.append(document.createElementNS(namespace, "a"));
+  const found = (text) => [...document.body.querySelectorAll(text)].map((it) => it.namespaceURI.slice(4)).join();
+  assert.deepEqual([":first-of-type", ":last-of-type", ":only-of-type", ":nth-of-type(2)", ":nth-last-of-type(2)"].map(found), ["one,two", "two,one", "two", "one", "one"]);
 });
 
 test("an element is found by its id in its own tree alone", { skip }, () => {

@@ -11,7 +11,7 @@ import { meterMembers, progressMembers } from "./gauges.js";
 import { linkAttributes, linkOperations } from "./links.js";
 import { frameMembers, mediaMembers, videoMembers } from "./media.js";
 import { elementMembers } from "./members.js";
-import { withControls } from "./names.js";
+import { FormWrapper } from "./names.js";
 import { flags, oneOf, text, textOrNull, texts, url, urls, whole, within, words } from "./reflect.js";
 import { optionMembers, selectMembers } from "./selects.js";
 import { formOf, isNamed } from "./states.js";
@@ -209,8 +209,7 @@ const KEPT = new Set(["input", "textarea", "option", "select"]);
 /** Makes the interfaces of a realm, and has it make elements of them. */
 export function makeInterfaces(realm) {
   const makers = new Map();
-  for (const table of [...ABOVE, ...tables]) realm.interfaces[table.name] = makeInterface(realm, table, Wrapper);
-  Object.setPrototypeOf(realm.interfaces.HTMLFormElement.prototype, withControls(realm.interfaces.HTMLElement.prototype));
+  for (const table of [...ABOVE, ...tables]) realm.interfaces[table.name] = makeInterface(realm, table, table.name === "HTMLFormElement" ? FormWrapper : Wrapper);
   realm.elementMaker = (name) => {
     let found = makers.get(name);
     if (!found) {

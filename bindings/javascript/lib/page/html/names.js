@@ -1,24 +1,32 @@
 /** Controls as properties of their form, by index, id and name (HTML Standard, section 4.10.3), as far as a form has no member of the name. */
-import { isElement } from "../core.js";
-import { isNamed } from "./states.js";
+import { Wrapper } from "../core.js";
+import { Traps } from "../legacy.js";
 
-const INDEX = /^(?:0|[1-9]\d*)$/;
+class ControlsAre {
+  form = null;
 
-/** What a form has of a name, or undefined. */
-function controlOf(form, key) {
-  const { elements } = form;
-  return (INDEX.test(key) ? elements[key] : elements.namedItem(key)) ?? undefined;
+  get length() {
+    return this.form.elements.length;
+  }
+
+  at(index) {
+    return this.form.elements[index] ?? null;
+  }
+
+  named(key) {
+    return this.form.elements.namedItem(key);
+  }
+
+  names() {
+    return [...this.form.elements].flatMap((it) => [it.id, it.getAttribute("name")]).filter(Boolean);
+  }
 }
 
-const isForm = (it) => isElement(it) && isNamed(it, "form");
-
-/** The prototype that stands above a form's: what no interface has is asked of the form that is read. */
-export const withControls = (prototype) =>
-  new Proxy(prototype, {
-    get(target, key, receiver) {
-      const isOwn = typeof key !== "string" || key in target || !isForm(receiver);
-      return isOwn ? Reflect.get(target, key, receiver) : controlOf(receiver, key);
-    },
-    // (to `instanceof` it is the prototype itself)
-    getPrototypeOf: () => prototype,
-  });
+/** The object of a form. */
+export class FormWrapper extends Wrapper {
+  constructor(its) {
+    const controls = new ControlsAre();
+    super(its, new Proxy(Object.create(new.target.prototype), new Traps(controls)));
+    controls.form = this;
+  }
+}

@@ -23,7 +23,7 @@ returns-else-fill g c =
     let links = c.args.links.now in
     let p = slot_of links c.args.parent in
     let table = c.fill.new.self in
-    record {
+    subst (AreRenumbered links c.number_up_to.new.links) (sym c.come_near-else-fill.ensures) record {
       renumbered = blocked-numbered c.requires.sound c.args.blocks.now c.requires.blocked c.number_up_to.new.links.arena p (slot_of links c.args.child) c.number_up_to.ensures.numbered table
           (subst (λ s. counts_in table s ≡ []) c.slot-slot.ensures (c.if-fill.ensures.none refl))
           (subst (λ s. (q : ℕ) → counts_in table q ≡ counts_but s (counts_in table s) c.args.blocks.now q) c.slot-slot.ensures c.fill.ensures.others);
