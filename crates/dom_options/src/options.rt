@@ -103,18 +103,16 @@ fn asked_of(matches: &ArgMatches<'_>) -> Asked
     Asked { numbers, line }
 }
 
-/// Returns the value that clap's text refuses, if it is one of the option in the words behind it.
-fn refused_value<'t>(text: &'t str, behind: &str) -> Option<&'t str> {
-    let (front, _) = text.rsplit_once(behind)?;
-    front.strip_prefix("error: invalid value '")
-}
-
 /// Returns the option that clap's text is about, its greatest value and the refused one, if it is about a limit.
+///
+/// The refused value can hold any text, the names of options too, so the option is read from the text's end.
 fn refused_limit(text: &str) -> Option<(&str, u64, &str)> {
-    if let Some(value) = refused_value(text, "' for '--line <BYTES>': ") {
+    let (said, _) = text.rsplit_once("': ")?;
+    let said = said.strip_prefix("error: invalid value '")?;
+    if let Some(value) = said.strip_suffix("' for '--line <BYTES>") {
         return Some(("--line", LONGEST_LINE, value));
     }
-    let value = refused_value(text, "' for '--numbers <N>': ")?;
+    let value = said.strip_suffix("' for '--numbers <N>")?;
     Some(("--numbers", NUMBERS, value))
 }
 
