@@ -11,7 +11,7 @@ use indexmap::IndexMap;
 use std::alloc::{AllocError, Global};
 use std::marker::Model;
 
-/// A list with more children than this is long. A shorter one has no blocks.
+/// A list with more children than this is long. Any other has no blocks.
 pub(crate) const LONG: u32 = 128;
 
 /// The blocks of each parent whose children are in blocks, with the number of children in each, in order.

@@ -108,7 +108,8 @@ impl<X: Drop> Tree<X> {
         self.take_alone(id);
     }
 
-    // Frees a root without children that is its own node document. If it is the node document of others, these are no longer counted.
+    // Frees a root without children that is its own node document. If it is the node document of others, the nodes of each node document are no longer
+    // counted.
     fn take_alone(&mut self, id: NodeId)
         requires no_parent { parent_of self.old.forest id ≡ None }
         requires no_child { children_of self.old.forest id ≡ [] }

@@ -84,7 +84,7 @@ impl<X> Tree<X> {
         }
     }
 
-    /// Returns the index among the siblings, and caches it; 0 for a root. It takes no memory.
+    /// Returns the index among the siblings, and caches it if it is not found near; 0 for a root. It takes no memory.
     ///
     /// It looks 64 steps to both sides. If it finds nothing there, it caches the index, and the index of each preceding sibling, until the list
     /// changes before it.

@@ -95,8 +95,8 @@ impl Units {
 
     /// Replaces `count` units from the offset `at` on by `added` (DOM Standard, "replace data").
     ///
-    /// If the text grows, it takes memory at most once, before any unit moves. The units after the replaced ones move once. A buffer for more than twice
-    /// the length and more than 32 units shrinks, if there is memory for a smaller one. The buffer of an empty text is freed.
+    /// If the text grows, it takes memory at most once, before any unit moves. The units after the replaced ones move once. A buffer for more than
+    /// twice the length and more than 32 units shrinks, if there is memory for a smaller one. The buffer of an empty text is freed.
     pub fn splice(&mut self, at: usize, count: usize, added: &[u16]) -> Result<(), AllocError>
         requires within { at ≤ length self.old }
         requires enough { count ≤ length self.old - at }
