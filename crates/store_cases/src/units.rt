@@ -24,7 +24,7 @@ enum Step {
     Slice(usize, &'static [u16]),
     // Expects these characters, or that it is not well-formed.
     Reads(Option<&'static str>),
-    // Expects these units, and then replaces units: from an offset, how many, and by which.
+    // Expects these units, and then replaces some: from an offset, how many, and the new ones.
     Splice(&'static [u16], usize, usize, &'static [u16]),
 }
 
