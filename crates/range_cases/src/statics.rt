@@ -145,7 +145,8 @@ const ONE_STAYS: &[Row] = &[
     (4, 5, Step::Lies((9, 1), (9, 2))),
 ];
 
-// A node is referred to until its last end is released. In 0 [ 1 [ 2 ] 3 ], one static range has both ends in 2. Another has one end in 2, and one in 3.
+// A node is referred to until its last end is released. In 0 [ 1 [ 2 ] 3 ], one static range has both ends in 2. Another has one end in 2, and one
+// in 3.
 const ENDS_IN_ONE_NODE: &[Row] = &[
     (0, 1, Step::Grow((Kind::Element, None, 0))),
     (1, 2, Step::Grow((Kind::Element, Some(0), 0))),

@@ -12,8 +12,8 @@ const OF_ONE_NODE: &[Row] = &[
     (0, 1, Step::Order((0, 1), (0, 1), Ordering::Equal)),
 ];
 
-// Points of 0 [ 1 [ 3 ] 2 [ 4 [ 5 ] ] ], and common ancestors of two nodes. A point of an ancestor is before a point below it if its offset is at most
-// the index of the child on the path, and after it otherwise. Other points are in tree order.
+// Points of 0 [ 1 [ 3 ] 2 [ 4 [ 5 ] ] ], and common ancestors of two nodes. A point of an ancestor is before a point below it if its offset is at
+// most the index of the child on the path, and after it otherwise. Other points are in tree order.
 const OF_SIX_NODES: &[Row] = &[
     (0, 1, Step::Element(None, "")),
     (1, 3, Step::Child(None, 0)),
