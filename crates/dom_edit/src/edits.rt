@@ -153,7 +153,7 @@ impl World {
         self.insert_before(alloc, parent, node, None)
     }
 
-    /// Fast path: appends a root without children, and returns whether it did. Looks up each of the two numbers once.
+    /// Appends a root without children by the fast path, and returns whether it did. Looks up each of the two numbers once.
     ///
     /// Succeeds only if there are no observers and [`Tree::put_leaf`] accepts the node. On `false` nothing has changed; call [`World::append`].
     ///

@@ -1,4 +1,4 @@
-//! How many elements and how many doctypes stand among the children of a Document.
+//! The number of elements and of doctypes among the children of each Document.
 
 ghost use Rattle.std.specs.Prelude.{◌≡◌, ℕ, None, [], option_map};
 ghost use Rattle.dom_model.specs.Forests.Kinds.{is_kind};
@@ -10,7 +10,7 @@ use indexmap::IndexMap;
 use std::alloc::{AllocError, Global};
 use std::marker::Model;
 
-/// How many elements and how many doctypes stand among the children of a node.
+/// The number of elements and of doctypes among the children of a node.
 #[derive(Clone, Copy)]
 pub(crate) struct Tally {
     pub(crate) elements: u32,
@@ -22,7 +22,7 @@ const BARE: Tally = Tally {
     doctypes: 0,
 };
 
-/// For each Document what stands among its children.
+/// The tallies of all Documents, by slot.
 #[derive(Drop)]
 pub(crate) struct Tallies {
     by_slot: IndexMap<usize, Tally>,
@@ -37,14 +37,14 @@ impl Model for Tallies {
     ghost view = { λ t. t.by_slot.entries };
 }
 
-// 1 where a kind is the one that is counted.
+// Returns 1 if a kind is the counted one, otherwise 0.
 fn one(counted: Kind, kind: Kind) -> u32
     ensures { result ≡ one (is_kind counted kind) }
 {
     if counted == kind { 1 } else { 0 }
 }
 
-// One child more of a kind.
+// Counts one child more of a kind.
 fn raise(tally: &mut Tally, kind: Kind)
     ensures { tally.new ≡ raised (λ counted. is_kind counted kind) tally.old }
 {
@@ -52,7 +52,7 @@ fn raise(tally: &mut Tally, kind: Kind)
     tally.doctypes = tally.doctypes.saturating_add(one(Kind::DocumentType, kind));
 }
 
-// One child less of a kind.
+// Counts one child less of a kind.
 fn lower(tally: &mut Tally, kind: Kind)
     ensures { tally.new ≡ lowered (λ counted. is_kind counted kind) tally.old }
 {
@@ -61,7 +61,7 @@ fn lower(tally: &mut Tally, kind: Kind)
 }
 
 impl Tallies {
-    /// No counts, and room for none.
+    /// Returns an empty table. It takes no memory.
     pub(crate) fn new(alloc: Global) -> Tallies
         ensures { result ≡ [] }
     {
@@ -70,14 +70,14 @@ impl Tallies {
         }
     }
 
-    /// What stands among the children of a parent, where that is kept.
+    /// Returns the tally of a parent, if it has one.
     pub(crate) fn get(&self, parent: Slot) -> Option<Tally>
         ensures { result ≡ tally_in self.now parent }
     {
         self.by_slot.get(&parent.number()).copied()
     }
 
-    /// Makes room for one more node of a kind.
+    /// Reserves room for one more node of a kind.
     pub(crate) fn reserve(&mut self, kind: Kind) -> Result<(), AllocError>
         ensures { self.new ≡ self.old }
     {
@@ -87,7 +87,7 @@ impl Tallies {
         Ok(())
     }
 
-    /// Begins to count the children of a node that has none, where it is a Document and there is room.
+    /// Starts the tally of a node without children, if it is a Document and there is room.
     pub(crate) fn start(&mut self, parent: Slot, kind: Kind)
         ensures { AreStarted parent kind self.old self.new }
     {
@@ -118,7 +118,7 @@ impl Tallies {
         }
     }
 
-    /// Lets go of the counts of a parent.
+    /// Removes the tally of a parent.
     pub(crate) fn remove(&mut self, parent: Slot)
         ensures { (p : ℕ) → tally_in self.new p ≡ tally_but parent None self.old p }
     {
