@@ -76,10 +76,11 @@ pub extern "C" fn hp_nodes_made(handle: &mut Handle, count: &mut u64) -> u8
     ensures kept { handle.new.slot.kept ≡ handle.old.slot.kept }
     ensures told { TellsWorld handle.old made_told made_held count.old count.new result }
 {
-    if !handle.is_open {
-        return HP_CLOSED;
+    if handle.is_open {
+        let kept = &handle.slot.lend().kept;
+        *count = kept.nodes_made();
+        kept.found()
+    } else {
+        HP_CLOSED
     }
-    let kept = &handle.slot.lend().kept;
-    *count = kept.nodes_made();
-    kept.found()
 }
