@@ -143,7 +143,7 @@ class Pages(unittest.TestCase):
             with open(os.path.join(printed.ROOT, it), encoding="utf-8") as file:
                 words[it] = len(file.read().split())
         self.assertLessEqual(words["README.md"], 900)
-        self.assertLessEqual(sum(words.values()), 40000)
+        self.assertLessEqual(sum(words.values()), 27000)
 
 
 class Threads(unittest.TestCase):
