@@ -58,12 +58,6 @@ def shown(text):
                 yield group.lower(), name, words.split(), answer
 
 
-def grouped(text):
-    """The groups of the page's first table, each with its names."""
-    found = re.findall(r"^\| (\w+) \| ((?:`\w+`(?:, )?)+) \|$", text, re.M)
-    return [(group, name) for group, names in found for name in re.findall(r"\w+", names)]
-
-
 def meanings(text):
     """What the page says of each argument."""
     body = text.partition("| argument | what it is |")[2].partition("\n\n")[0]
@@ -126,8 +120,6 @@ def wrongs(given):
     yield from (f"{PAGE}: it has no row for {it}, which the definitions have" for it in table if it not in names)
     yield from (f"{PAGE}: the definitions have no {it}" for it in names if it not in table)
     yield from (f"{PAGE}: it has more than one row for {it}" for it in table if names.count(it) > 1)
-    if grouped(given[PAGE]) != [it[:2] for it in page]:
-        yield f"{PAGE}: the groups of its first table are not those of its parts, in their order"
     for _, name, words, _ in page:
         wrong = wrong_arguments(words, table[name][0], said) if name in table else None
         if wrong:

@@ -117,7 +117,7 @@ export class Session {
   namespaces = [];
   hasMarkedAttributes = false;
   hasPrefixedAttributes = false;
-  /** The elements of each id (see ids.js), and whether a line was answered, after which they are not known. */
+  /** The elements of each id (see ids.js), by number if there is one alone; and whether a line was answered, after which they are not known. */
   ids = new Map();
   hasSpoken = false;
   /** Whether an element was ever given contents of its own, as a template of HTML is. */

@@ -1,5 +1,5 @@
 /** Elements by their ids: which elements of a session have which id, kept by what changes tell. */
-import { native, NONE, OK, textFrom, words, out } from "./core.js";
+import { native, OK, textFrom, words, out } from "./core.js";
 import { Session } from "./core.js";
 import { itsOf, numberOf, recall, sessionOf, wrap } from "./wrappers.js";
 
@@ -18,46 +18,41 @@ export function holdersOf(session, root, name) {
   return found;
 }
 
-/** The elements of a session that have one id: their numbers, and, until the program waits, what their objects know and what was answered last. */
+/** The elements of a session that share an id: their numbers, and, until the program waits, what was answered last. */
 class Holders {
-  /** Nearly always there is one. */
-  #one = NONE;
-  #more = null;
-  #found = null;
+  #numbers;
   root = null;
   structure = -1;
   answer = null;
 
-  get size() {
-    return (this.#one === NONE ? 0 : 1) + (this.#more?.size ?? 0);
+  constructor(...numbers) {
+    this.#numbers = new Set(numbers);
   }
 
   add(number) {
-    if (this.#one === NONE) this.#one = number;
-    else if (this.#one !== number) (this.#more ??= new Set()).add(number);
+    this.#numbers.add(number);
     this.forget();
   }
 
   delete(number) {
-    if (this.#one === number) this.#one = NONE;
-    else this.#more?.delete(number);
+    this.#numbers.delete(number);
     this.forget();
   }
 
-  forget() {
-    this.#found = this.root = this.answer = null;
+  /** The number of the only one, or null if there are more. */
+  only() {
+    const [one] = this.#numbers;
+    return this.#numbers.size === 1 ? one : null;
   }
 
-  /** What the object of the only one knows. */
-  #only(session) {
-    return (this.#found ??= itsOf(wrap(session, this.#one)));
+  forget() {
+    this.root = this.answer = null;
   }
 
   #first(root) {
     const { session } = root;
-    if (this.#more === null && this.#one !== NONE) return within(this.#only(session), root);
-    let first = this.#one === NONE ? null : found(root, this.#one);
-    for (const number of this.#more ?? []) {
+    let first = null;
+    for (const number of this.#numbers) {
       const it = found(root, number);
       if (it !== null) first = first === null ? it : earlier(session, first, it);
     }
@@ -93,15 +88,19 @@ function note(session, number, before, after) {
   if (before === after) return;
   if (before !== null) forget(session, number, before);
   if (after === null || after === "") return;
-  let there = session.ids.get(after);
-  if (there === undefined) session.ids.set(after, (there = new Holders()));
-  there.add(number);
+  const there = session.ids.get(after);
+  if (there === undefined) session.ids.set(after, number);
+  else if (typeof there !== "number") there.add(number);
+  else if (there !== number) session.ids.set(after, new Holders(there, number));
 }
 
 function forget(session, number, id) {
   const there = session.ids.get(id);
-  there?.delete(number);
-  if (there?.size === 0) session.ids.delete(id);
+  if (there === number) session.ids.delete(id);
+  if (there === undefined || typeof there === "number") return;
+  there.delete(number);
+  const only = there.only();
+  if (only !== null) session.ids.set(id, only);
 }
 
 /** Notes the ids of a tree that has just been made. */
@@ -120,13 +119,21 @@ function earlier(session, one, other) {
   return out[0] & 4 ? one : other;
 }
 
+/** What the object of the only element of an id knows if it stands below a root, else null; undefined if several share the id. */
+export function onlyBelow(root, id) {
+  const there = root.session.ids.get(id);
+  if (there === undefined) return null;
+  return typeof there === "number" ? found(root, there) : undefined;
+}
+
 /** The first element below a root that has an id, or null. */
 export function elementById(root, id) {
   const its = itsOf(root);
   const { session } = its;
   if (session.hasSpoken) return readById(root, id);
-  const found = session.ids.get(id)?.firstBelow(its) ?? null;
-  return found && found.object;
+  const only = onlyBelow(its, id);
+  const first = only === undefined ? session.ids.get(id).firstBelow(its) : only;
+  return first && first.object;
 }
 
 /** The same where lines were answered. */

@@ -2,9 +2,9 @@
  * Interfaces from tables, as Web IDL binds them: conversions of what comes in, brands, argument counts, constants, constructors.
  *
  * An interface is an object with `name`, `parent`, `is` (its brand), and `constants`, `attributes`, `operations`, `construct`, `hidden` (names that a `with`
- * does not see). An attribute is a getter or `{ type, get, set }`, with `read` in place of `get` if the state of a node says it; an operation is a list of
- * its arguments' types and a function of the object and the arguments. The types are those of Web IDL in its words; `= value` gives what stands for an absent
- * one, and `...` takes all that come.
+ * does not see). An attribute is a getter or `{ type, get, set }`, with `read` in place of `get` if the state of a node says it: then the interface is Node,
+ * or its `fits` says by the state of a node whether the node has it. An operation is a list of its arguments' types and a function of the object and the
+ * arguments. The types are those of Web IDL in its words; `= value` gives what stands for an absent one, and `...` takes all that come.
  */
 import { native, Refusal } from "./core.js";
 import { stateOf } from "./wrappers.js";
@@ -239,6 +239,12 @@ function reader(realm, read, name) {
   return named(made.operation, `get ${name}`, 0);
 }
 
+/** The same for an interface that not all nodes have. */
+const fitting = (realm, fits, read) => (its) => {
+  if (!fits(its)) throw realm.wrongThis();
+  return read(its);
+};
+
 function setter(realm, test, type, set, name) {
   return named(FORMS[1](realm, test, set, 1, [argument(type)]).operation, `set ${name}`, 1);
 }
@@ -255,7 +261,7 @@ function addAttributes(realm, table, prototype) {
   for (const [name, its] of Object.entries(table.attributes ?? {})) {
     const { get, read, set, type } = typeof its === "function" ? { get: its } : its;
     Object.defineProperty(prototype, name, {
-      get: read ? reader(realm, read, name) : getter(realm, table.is, get, name),
+      get: read ? reader(realm, table.fits ? fitting(realm, table.fits, read) : read, name) : getter(realm, table.is, get, name),
       set: set && setter(realm, table.is, type, set, name),
       enumerable: true,
       configurable: true,
@@ -300,7 +306,12 @@ function constructorOf(realm, table) {
  */
 export function makeInterface(realm, table, Base) {
   const made = constructorOf(realm, table);
-  const Maker = class extends Base {};
+  const Maker = class extends Base {
+    // (a constructor that is written out takes its arguments without a list of them)
+    constructor(its, object) {
+      super(its, object);
+    }
+  };
   realm.makers[table.name] = Maker;
   Object.defineProperty(made, "prototype", { value: Maker.prototype, writable: false });
   Object.defineProperty(Maker.prototype, "constructor", { value: made, writable: true, configurable: true });

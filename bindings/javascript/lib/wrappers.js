@@ -69,30 +69,31 @@ const mayHaveChildren = (kind) => kind === ELEMENT || kind === DOCUMENT || kind 
 /** What a node's object knows. Other nodes are here by what theirs know. */
 class NodeIs {
   constructor(session, number, kind, realm) {
+    // (what is read most stands first, and so together in memory)
     this.session = session;
-    this.number = number;
     this.kind = kind;
-    this.realm = realm;
+    // What an element's name says (see names.js), and its attributes (see attributes.js); of a text its data, as long as the links hold.
+    this.name = null;
+    this.values = null;
+    this.kept = null;
     this.object = null;
+    // The links to what stands beside it, and the count of the session at which they hold: none is known yet.
+    this.stamp = session.links;
+    this.first = undefined;
+    this.next = undefined;
+    this.previous = undefined;
+    this.last = undefined;
     // The parent, or the Document of a root.
     this.above = null;
     // Whether it is a child, whether the session finds it by its number, and whether it holds it until the program waits: a bit each.
     this.state = 0;
+    this.number = number;
+    this.realm = realm;
     // The wrapped children in no order: the first, for each the one behind it and the one ahead of it, and the table of many.
     this.below = null;
     this.behind = null;
     this.ahead = null;
     this.table = null;
-    // The links to what stands beside it, and the count of the session at which they hold.
-    this.stamp = -1;
-    this.first = undefined;
-    this.last = undefined;
-    this.next = undefined;
-    this.previous = undefined;
-    // What an element's name says (see names.js), and its attributes (see attributes.js); of a text its data, as long as the links hold.
-    this.name = null;
-    this.values = null;
-    this.kept = null;
     session.marks.add(number);
     remember(this);
   }

@@ -19,6 +19,7 @@ export { after } from "../following.js";
 export { HTML, small, SVG, XML, XMLNS } from "../names.js";
 export { Missing, wanted } from "../libraries.js";
 export { adoptNode, contentsOf, createComment, dataOf, documentOf, emptyContents, nameKnown, nameOf, Node, parentOf } from "../nodes.js";
+export { onlyBelow } from "../ids.js";
 export { htmlCollection, numbersIn, stillNodeList } from "../lists.js";
 export { serializeInner } from "../serializing.js";
 export { addMembers, convertible, converted, known, makeInterface, otherNodes, refuseType } from "../webidl.js";

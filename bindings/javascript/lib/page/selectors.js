@@ -11,6 +11,7 @@ import {
   itsOf,
   Missing,
   numbersIn,
+  onlyBelow,
   realmOf,
   refuse,
   rootOf,
@@ -95,11 +96,7 @@ function byList(node, { handle }) {
 /** What the object of the only element of an id knows in the tree of a node: null if there is none, undefined if there are more, or if that is not known. */
 function byId(node, { handle }) {
   if (handle?.type !== "id") return undefined;
-  const { session } = itsOf(node);
-  if (session.hasSpoken) return undefined;
-  const there = session.ids.get(handle.name);
-  if (there === undefined) return null;
-  return there.size > 1 ? undefined : there.firstBelow(itsOf(rootOf(node)));
+  return itsOf(node).session.hasSpoken ? undefined : onlyBelow(itsOf(rootOf(node)), handle.name);
 }
 
 function isBelow(its, node) {

@@ -1,51 +1,55 @@
 /** The `style` of elements, by cssstyle: a view of the attribute. There are no style sheets. */
-import { Element, HTML, keptOf, nameOf, wanted } from "./core.js";
+import { Element, HTML, itsOf, keptOf, nameOf, wanted } from "./core.js";
 
 const [, setAttribute] = Element.operations.setAttribute;
 const [, hasAttribute] = Element.operations.hasAttribute;
 
-/** The style of one element, which writes what a program changes into the attribute, and reads the attribute where that has changed. */
-class Style {
-  #isWriting = false;
+/** The element whose attribute is being written by its declaration, or read into it, or null: neither then follows the other. */
+let followed = null;
 
-  constructor(element) {
-    this.element = element;
-    const { CSSStyleDeclaration } = wanted("cssstyle", "styles");
-    this.declaration = new CSSStyleDeclaration((text) => this.#write(text));
-    if (hasAttribute(element, "style")) this.read();
-  }
-
-  read() {
-    if (this.#isWriting) return;
-    this.#isWriting = true;
-    try {
-      this.declaration.cssText = this.element.getAttribute("style") ?? "";
-    } finally {
-      this.#isWriting = false;
-    }
-  }
-
-  #write(text) {
-    if (this.#isWriting) return;
-    this.#isWriting = true;
-    try {
-      setAttribute(this.element, "style", text);
-    } finally {
-      this.#isWriting = false;
-    }
+function exclusively(element, does) {
+  if (followed === element) return;
+  const before = followed;
+  followed = element;
+  try {
+    does();
+  } finally {
+    followed = before;
   }
 }
 
-const styleOf = (element) => (keptOf(element).style ??= new Style(element)).declaration;
+/** Has a declaration say what the attribute says. */
+function read(element, declaration) {
+  exclusively(element, () => void (declaration.cssText = element.getAttribute("style") ?? ""));
+}
+
+/** A declaration that writes what a program changes into the attribute. */
+function made(element) {
+  const { CSSStyleDeclaration } = wanted("cssstyle", "styles");
+  const declaration = new CSSStyleDeclaration((text) => exclusively(element, () => setAttribute(element, "style", text)));
+  if (hasAttribute(element, "style")) read(element, declaration);
+  return declaration;
+}
+
+const styleOf = (element) => styleKnown(itsOf(element));
+
+/** The declaration of an element, by what its object knows. */
+function styleKnown(its) {
+  const kept = (its.kept ??= {});
+  return kept.style ?? (kept.style = made(its.object));
+}
 
 /** Follows a change of the attribute. */
-export const styleChanged = (element) => keptOf(element).style?.read();
+export function styleChanged(element) {
+  const { style } = keptOf(element);
+  if (style !== undefined) read(element, style);
+}
 
 /** What elements of HTML, SVG and MathML have. */
 export const styleAttribute = {
   style: {
     type: "DOMString",
-    get: (element) => styleOf(element),
+    read: styleKnown,
     set: (element, text) => void (styleOf(element).cssText = text),
   },
 };

@@ -1,5 +1,5 @@
 /** HTML's interfaces by the names of elements (HTML Standard, section 3.2.3 and the elements' own), and those of SVG and MathML that stand above all. */
-import { HTML, isElement, known, makeInterface, nameOf, refuse, SVG, Wrapper } from "../core.js";
+import { ELEMENT, HTML, isNode, itsOf, known, makeInterface, nameKnown, nameOf, refuse, SVG, Wrapper } from "../core.js";
 import { activate, follow } from "../activation.js";
 import { bodyHandlers } from "../handlers.js";
 import { contentOf } from "../markup.js";
@@ -169,25 +169,30 @@ function interfaceOf(local) {
   return PLAIN.has(local) || isCustom ? "HTMLElement" : "HTMLUnknownElement";
 }
 
-const isIn = (namespace) => (it) => isElement(it) && nameOf(it).namespace === namespace;
-const isHTML = isIn(HTML);
-const isSVG = isIn(SVG);
+/** The brand of the elements of a namespace, by the state of a node and by the object. */
+function ofNamespace(namespace) {
+  const fits = (its) => its.kind === ELEMENT && nameKnown(its).namespace === namespace;
+  return { fits, is: (it) => isNode(it) && fits(itsOf(it)) };
+}
+
+const ofHTML = ofNamespace(HTML);
+const ofSVG = ofNamespace(SVG);
 
 const isOf = (name) => {
   const names = new Set(INTERFACES[name][0].split(" "));
-  return (it) => isHTML(it) && names.has(nameOf(it).local);
+  return (it) => ofHTML.is(it) && names.has(nameOf(it).local);
 };
 
 const isMedia = (it) => isNamed(it, "audio", "video");
 
 const ABOVE = [
-  known({ name: "HTMLElement", parent: "Element", is: isHTML, ...elementMembers.html }),
-  known({ name: "HTMLUnknownElement", parent: "HTMLElement", is: isHTML }),
+  known({ name: "HTMLElement", parent: "Element", ...ofHTML, ...elementMembers.html }),
+  known({ name: "HTMLUnknownElement", parent: "HTMLElement", ...ofHTML }),
   known({ name: "HTMLMediaElement", parent: "HTMLElement", is: isMedia, ...media }),
-  known({ name: "SVGElement", parent: "Element", is: isSVG, ...elementMembers.svg }),
-  known({ name: "SVGGraphicsElement", parent: "SVGElement", is: isSVG }),
-  known({ name: "SVGSVGElement", parent: "SVGGraphicsElement", is: isSVG }),
-  known({ name: "MathMLElement", parent: "Element", is: isIn(MATHML), ...elementMembers.math }),
+  known({ name: "SVGElement", parent: "Element", ...ofSVG, ...elementMembers.svg }),
+  known({ name: "SVGGraphicsElement", parent: "SVGElement", ...ofSVG }),
+  known({ name: "SVGSVGElement", parent: "SVGGraphicsElement", ...ofSVG }),
+  known({ name: "MathMLElement", parent: "Element", ...ofNamespace(MATHML), ...elementMembers.math }),
 ];
 
 const tables = Object.entries(INTERFACES).map(([short, [, members, parent = ""]]) =>
@@ -208,15 +213,14 @@ const KEPT = new Set(["input", "textarea", "option", "select"]);
 
 /** Makes the interfaces of a realm, and has it make elements of them. */
 export function makeInterfaces(realm) {
-  const makers = new Map();
+  // (by the module's numbers of names: a namespace that has an interface here is written alike in each session)
+  const makers = [];
   for (const table of [...ABOVE, ...tables]) realm.interfaces[table.name] = makeInterface(realm, table, table.name === "HTMLFormElement" ? FormWrapper : Wrapper);
   realm.elementMaker = (name) => {
-    let found = makers.get(name);
-    if (!found) {
-      makers.set(name, (found = realm.makers[BY_NAMESPACE[name.namespace]?.(name.local) ?? "Element"]));
-      realm.hasKept ||= KEPT.has(name.local);
-    }
-    return found;
+    const found = makers[name.number];
+    if (found !== undefined) return found;
+    realm.hasKept ||= KEPT.has(name.local);
+    return (makers[name.number] = realm.makers[BY_NAMESPACE[name.namespace]?.(name.local) ?? "Element"]);
   };
 }
 
