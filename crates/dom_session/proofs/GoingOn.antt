@@ -1,8 +1,9 @@
 -- What is as it was if memory was refused, and for which commands it is.
-use Rattle.std.proofs.Common.{◌≡◌, ℕ, true, false, refl, sym, subst, ap}
+use Rattle.std.proofs.Common.{◌≡◌, Bool, true, false, refl, sym, subst, ap}
 use Rattle.dom_model.specs.Commands.Command.{Command}
+use Rattle.dom_model.specs.Commands.Answer.{Bounds}
 use Rattle.dom_observe.specs.Watchers.{Watches}
-use Rattle.dom_edit.specs.{declared.world.World.World, Whole.Shows, Whole.Keeps, Whole.IsWhole, Whole.CoversAhead}
+use Rattle.dom_edit.specs.{declared.world.World.World, Whole.Shows, Whole.Keeps, Whole.IsWhole, Whole.IsShown, Whole.CoversAhead}
 use Rattle.dom_session.specs.{declared.command.Making.Making, declared.command.Making.TheVariants.NewDocument, declared.command.Making.TheVariants.CreateElement, declared.command.Making.TheVariants.CreateText, declared.command.Making.TheVariants.CreateComment, declared.command.Making.TheVariants.CreatePI, declared.command.Making.TheVariants.CreateDoctype, declared.command.Making.TheVariants.CreateFragment, declared.command.Editing.Editing, declared.command.Editing.TheVariants.InsertBefore, declared.command.Editing.TheVariants.AppendChild, declared.command.Editing.TheVariants.AdoptNode, declared.command.Editing.TheVariants.ReplaceChild, declared.command.Editing.TheVariants.RemoveChild, declared.command.Editing.TheVariants.Remove, declared.command.Editing.TheVariants.ReplaceChildren, declared.command.Editing.TheVariants.Discard, declared.command.Asking.Asking, declared.command.Asking.TheVariants.DescribeNode, declared.command.Asking.TheVariants.Children, declared.command.Asking.TheVariants.Index, declared.command.Asking.TheVariants.Length, declared.command.Asking.TheVariants.Root, declared.command.Asking.TheVariants.Tree, declared.command.Ranging.Ranging, declared.command.Ranging.TheVariants.CreateRange, declared.command.Ranging.TheVariants.CloneRange, declared.command.Ranging.TheVariants.DescribeRange, declared.command.Ranging.TheVariants.ReleaseRange, declared.command.Setting.Setting, declared.command.Setting.TheVariants.SetStart, declared.command.Setting.TheVariants.SetEnd, declared.command.Setting.TheVariants.SetStartBefore, declared.command.Setting.TheVariants.SetStartAfter, declared.command.Setting.TheVariants.SetEndBefore, declared.command.Setting.TheVariants.SetEndAfter, declared.command.Setting.TheVariants.Collapse, declared.command.Setting.TheVariants.SelectNode, declared.command.Setting.TheVariants.SelectNodeContents, declared.command.Comparing.Comparing, declared.command.Comparing.TheVariants.CompareBoundaryPoints, declared.command.Comparing.TheVariants.ComparePoint, declared.command.Comparing.TheVariants.IsPointInRange, declared.command.Comparing.TheVariants.IntersectsNode, declared.command.Comparing.TheVariants.CommonAncestor, declared.command.StaticRanging.StaticRanging, declared.command.StaticRanging.TheVariants.CreateStaticRange, declared.command.StaticRanging.TheVariants.DescribeStaticRange, declared.command.StaticRanging.TheVariants.ReleaseStaticRange, declared.command.Traversing.Traversing, declared.command.Traversing.TheVariants.CreateIterator, declared.command.Traversing.TheVariants.CreateWalker, declared.command.Traversing.TheVariants.DescribeIterator, declared.command.Traversing.TheVariants.NextNode, declared.command.Traversing.TheVariants.PreviousNode, declared.command.Traversing.TheVariants.DescribeWalker, declared.command.Traversing.TheVariants.SetCurrent, declared.command.Traversing.TheVariants.Walk, declared.command.Traversing.TheVariants.ReleaseIterator, declared.command.Traversing.TheVariants.ReleaseWalker, Views.making_view, Views.editing_view, Views.asking_view, Views.ranging_view, Views.setting_view, Views.comparing_view, Views.static_ranging_view, Views.traversing_view, GoingOn.is_question, GoingOn.goes_on, Ending.with_room, Ending.IsAsItWas, Ending.IsAsBefore, Stands.Held}
 
 pub as_it_was : (v : World) → IsAsItWas v v
@@ -30,10 +31,23 @@ as_it_was-covers old new covers whole = record {
   };
 }
 
+pub shown_as : (old new : World) → IsAsItWas old new → IsShown old → IsShown new
+shown_as old new kept shown = record {
+  stands_for = shown.stands_for;
+  shows = kept.stands shown.stands_for shown.shows;
+}
+
 -- Sessions.
 
 pub as_before : (s : Held) → IsAsBefore s s
 as_before s = record { is = refl; stands = λ w shows. shows }
+
+-- a session whose world is as it was
+pub as_before-world : (old new : World) (b : Bounds) (ended : Bool) → IsAsItWas old new → IsAsBefore (record { world = old; bounds = b; ended = ended }) (record { world = new; bounds = b; ended = ended })
+as_before-world old new b ended kept = record {
+  is = ap (λ (v : World). record { world = v; bounds = b; ended = ended }) kept.is;
+  stands = kept.stands;
+}
 
 -- The commands of a group.
 
