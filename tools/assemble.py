@@ -38,8 +38,9 @@ OF_HEADER = ("bindings/VERSION", "bindings/c/exports.py", "bindings/c/header.py"
 OF_MODULE = (*OF_HEADER, *(f"bindings/web/{it}" for it in ("base.h", "bytes.c", "glue.py", "heap.c", "heap.h", "html.h", "include", "make.py", "retarget.py", "wasm.py")))
 ROW = re.compile(r"# (?P<name>\S+): sources (?P<sources>\w+)\n(?P<own>\w+)  (?P=name)\n")
 CRATE = re.compile(r"# crate (?P<name>\S+): (?P<sources>\w+)\n")
-# Which files of a linked program the linker leaves out, as the kit's does.
-LINKED = ("-pie", "-Wl,--gc-sections", "-Wl,-z,relro,-z,now", "-Wl,-z,noexecstack", "-Wl,--as-needed", "-Wl,--build-id=sha1")
+# Which parts of a linked program the linker leaves out, as the kit's does. That one puts no padding between code and constants; this one's way to do without
+# it is to map both together.
+LINKED = ("-pie", "-Wl,--gc-sections", "-Wl,-z,relro,-z,now", "-Wl,-z,noexecstack", "-Wl,-z,noseparate-code", "-Wl,--as-needed", "-Wl,--build-id=sha1")
 
 
 class Unfit(Exception):

@@ -171,7 +171,7 @@ def at_a_terminal(program):
 
 def limits_in_plain_words(program):
     for option, most in RANGES.items():
-        for value in ("x", "0", str(most + 1), "9" * 30, "1.5", "", "1..=3"):
+        for value in ("x", "0", str(most + 1), "9" * 30, "1.5", "", "1..=3", "' for '--line <BYTES>': ", "' for '--numbers <N>': 1"):
             due = f"error: {option} wants a whole number from 1 to {most}, not '{value}'".encode() + FOR_MORE
             for words in ((option, value), (f"{option}={value}",)):
                 equal(run(program, *words), (2, b"", due))

@@ -18,6 +18,7 @@ COVERED = (
     "CONTRIBUTING.md",
     "SECURITY.md",
     "crates/*/README.md",
+    "crates/*/src/**/*.rt",
     "docs/architecture.md",
     "docs/c-library.md",
     "docs/carrying-on.md",

@@ -1,4 +1,4 @@
-//! However an input is cut, the output is the same.
+//! The output is the same wherever the input is cut.
 
 use crate::faults::is_told_of_each_fault;
 use crate::memory::{is_answered_over_memory, limits_of};
@@ -8,7 +8,7 @@ use stated_pieces::{Feeder, in_pieces, serve_all};
 use std::alloc::Global;
 use std::process::Abort;
 
-// That the dialogue, given by this reader, is answered as is due.
+// Asserts the output of a dialogue over a reader.
 fn is_answered(rt: &impl Abort, alloc: Global, dialogue: &Dialogue, reader: Feeder<'_>) {
     let limits = limits_of(dialogue);
     assert!(rt; 1 <= limits.numbers && limits.numbers <= 4294967295 && 1 <= limits.line);
@@ -18,7 +18,7 @@ fn is_answered(rt: &impl Abort, alloc: Global, dialogue: &Dialogue, reader: Feed
     assert!(rt; served.written.as_slice() == dialogue.output(), "{name}");
 }
 
-// That the dialogue, given in pieces, is answered as is due.
+// Asserts the output of a dialogue that is read in pieces.
 fn is_answered_in_pieces(rt: &impl Abort, alloc: Global, dialogue: &Dialogue) {
     for most in [1, 7, 65536] {
         let reader = in_pieces(dialogue.input(), most);
@@ -26,8 +26,9 @@ fn is_answered_in_pieces(rt: &impl Abort, alloc: Global, dialogue: &Dialogue) {
     }
 }
 
-/// That the dialogue is answered as is due whole, in pieces, where a growth is refused, and cut in two at any byte; and that faults are
-/// told. Each dialogue has a test that asks it, beside its text.
+/// Asserts the output of a dialogue: whole, in pieces, with refused allocations, and cut in two at each byte. Asserts its faults too.
+///
+/// Each dialogue has a test that calls it, besides its text.
 pub(crate) fn is_answered_in_two(rt: &impl Abort, alloc: Global, dialogue: &Dialogue) {
     is_answered_over_memory(rt, alloc, dialogue);
     is_answered_in_pieces(rt, alloc, dialogue);

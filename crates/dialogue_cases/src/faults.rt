@@ -1,4 +1,4 @@
-//! Reads, writes and flushes that fail, and inputs that do not end within the reads.
+//! Failing reads, writes and flushes, and inputs that do not end within the number of reads.
 
 use crate::memory::limits_of;
 use dialogues::Dialogue;
@@ -25,8 +25,8 @@ fn a_read_fails_after_a_whole_line(rt: HostRuntime) {
     }
 }
 
-// That a failed read, after so many that do not fail, is told, and that written then are the replies to the lines whose newline
-// was read. Answers whether that read was made.
+// Asserts that a failed read after `reads` others is reported, and that the replies to all lines read until then were written. Returns whether that
+// read was made.
 fn fails_at_read(
     rt: &impl Abort,
     alloc: Global,
@@ -57,7 +57,7 @@ fn fails_at_read(
     true
 }
 
-// That each read fails in turn as it should.
+// Asserts the outcome if each read in turn fails.
 fn fails_at_each_read(rt: &impl Abort, alloc: Global, dialogue: &Dialogue, most: usize) {
     for reads in 0..=dialogue.input().len().saturating_add(1) {
         if !fails_at_read(rt, alloc, dialogue, most, reads) {
@@ -66,7 +66,7 @@ fn fails_at_each_read(rt: &impl Abort, alloc: Global, dialogue: &Dialogue, most:
     }
 }
 
-// The front of a text that so many writes take, where each takes at most so many bytes of one line.
+// Returns the part of a text that `writes` writes take. Each takes at most `most` bytes of one line.
 fn first_writes(text: &[u8], most: usize, writes: usize) -> &[u8] {
     let mut left = writes;
     let mut room: usize = 0;
@@ -86,7 +86,7 @@ fn first_writes(text: &[u8], most: usize, writes: usize) -> &[u8] {
     text
 }
 
-// Serves the dialogue in pieces to this writer, and shows that what it took is this, and that serving failed where that is not all.
+// Serves a dialogue in pieces to a writer. Asserts which bytes it took, and that serving failed if the writer did.
 fn fails_after(rt: &impl Abort, alloc: Global, dialogue: &Dialogue, mut writer: Taker, due: &[u8]) {
     let name = dialogue.name;
     let limits = limits_of(dialogue);
@@ -101,7 +101,7 @@ fn fails_after(rt: &impl Abort, alloc: Global, dialogue: &Dialogue, mut writer: 
     assert!(rt; ended.is_ok() || ended == Err(Fault::Write), "{name}");
 }
 
-// That where each write fails in turn, what was written is what the writes before it took, and that one that is not made changes nothing.
+// Asserts that if each write in turn fails, the output is the bytes of the writes before it. A failing write that is never made changes nothing.
 fn fails_at_each_write(rt: &impl Abort, alloc: Global, dialogue: &Dialogue, most: usize) {
     let output = dialogue.output();
     for writes in 0..=output.len() {
@@ -116,7 +116,7 @@ fn fails_at_each_write(rt: &impl Abort, alloc: Global, dialogue: &Dialogue, most
     }
 }
 
-// That where each flush fails in turn, what was written is whole lines: a line is passed on as it is written.
+// Asserts that if each flush in turn fails, the output is whole lines, because each line is flushed when it is written.
 fn fails_at_each_flush(rt: &impl Abort, alloc: Global, dialogue: &Dialogue, most: usize) {
     let output = dialogue.output();
     for flushes in 0..=newlines(output) {
@@ -128,8 +128,8 @@ fn fails_at_each_flush(rt: &impl Abort, alloc: Global, dialogue: &Dialogue, most
     }
 }
 
-// That a writer with room for so many bytes gets that front of the output, and that serving fails where that is not all: a slice takes
-// no more bytes once it is full.
+// Asserts that a writer with room for `room` bytes gets the beginning of the output, and that serving fails if that is not all. A full slice takes no
+// more bytes.
 fn fills_the_room(rt: &impl Abort, alloc: Global, dialogue: &Dialogue, room: usize) {
     let name = dialogue.name;
     let limits = limits_of(dialogue);
@@ -155,14 +155,14 @@ fn fills_the_room(rt: &impl Abort, alloc: Global, dialogue: &Dialogue, room: usi
     );
 }
 
-// The same of each room up to that of the whole output.
+// Asserts the outcome for each room up to that of the whole output.
 fn fills_each_room(rt: &impl Abort, alloc: Global, dialogue: &Dialogue) {
     for room in 0..=dialogue.output().len() {
         fills_the_room(rt, alloc, dialogue, room);
     }
 }
 
-/// That in pieces of 1, 7 and 65,536 bytes each read, write and flush fails in turn as it should, and that a writer is filled to its last byte.
+/// Asserts the outcome if each read, write and flush in turn fails, in pieces of 1, 7 and 65,536 bytes, and that a writer is filled to its last byte.
 pub(crate) fn is_told_of_each_fault(rt: &impl Abort, alloc: Global, dialogue: &Dialogue) {
     for most in [1, 7, 65536] {
         fails_at_each_read(rt, alloc, dialogue, most);
@@ -172,7 +172,7 @@ pub(crate) fn is_told_of_each_fault(rt: &impl Abort, alloc: Global, dialogue: &D
     fills_each_room(rt, alloc, dialogue);
 }
 
-// A slice takes no more bytes once it is full.
+// A full slice takes no more bytes.
 #[test]
 fn a_write_that_takes_no_bytes_fails(rt: HostRuntime) {
     let mut space = [0u8; 40];

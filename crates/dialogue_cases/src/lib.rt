@@ -1,4 +1,4 @@
-//! The tests of dialogues from bytes to bytes: whole, cut anywhere, with reads, writes and flushes that fail, and with refused growths.
+//! The tests of dialogues from bytes to bytes: whole, cut anywhere, with failing reads, writes and flushes, and with refused allocations.
 #![tactic(auto)]
 
 #[cfg(test)]

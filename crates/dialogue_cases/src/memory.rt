@@ -1,4 +1,4 @@
-//! Dialogues under their limits, over readers and writers of the library.
+//! Dialogues with their limits, over readers and writers of the library.
 
 ghost use Rattle.std.specs.Prelude.{◌≡◌};
 
@@ -7,7 +7,7 @@ use dom_serve::{FromRead, Limits, Summary, ToWrite, serve};
 use std::alloc::Global;
 use std::process::Abort;
 
-/// The limits of a dialogue.
+/// Returns the limits of a dialogue.
 pub(crate) fn limits_of(dialogue: &Dialogue) -> Limits
     ensures { (result.numbers ≡ dialogue.now.numbers) × (result.line ≡ dialogue.now.line) }
 {
@@ -17,7 +17,7 @@ pub(crate) fn limits_of(dialogue: &Dialogue) -> Limits
     }
 }
 
-/// That the dialogue is answered as is due, in as many lines as have a reply, over readers and writers of the library.
+/// Asserts the output of a dialogue, and the number of its lines, over readers and writers of the library.
 pub(crate) fn is_answered_over_memory(rt: &impl Abort, alloc: Global, dialogue: &Dialogue) {
     let limits = limits_of(dialogue);
     assert!(rt; 1 <= limits.numbers && limits.numbers <= 4294967295 && 1 <= limits.line);

@@ -1,4 +1,4 @@
-//! Readers and writers that fail once and then go on: serving ends at the failure, and asks nothing more of them.
+//! Readers and writers that fail once and then succeed: serving ends at the failure, and does not call them again.
 
 use dom_serve::{Fault, Sink, Source, serve};
 use stated_pieces::{USUAL, all_taken, in_pieces};
@@ -51,7 +51,7 @@ fn a_writer_that_would_flush_on(rt: HostRuntime) {
     assert_eq!(rt; writer.flush(), Ok(()));
 }
 
-// Each of the two lines is flushed, once.
+// Each of the two lines is flushed once.
 #[test]
 fn every_line_is_passed_on(rt: HostRuntime) {
     let mut reader = in_pieces(TWO_LINES, 1);

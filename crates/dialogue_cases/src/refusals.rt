@@ -1,5 +1,5 @@
-//! Dialogues of which any growth may be refused. What the writer takes has its room before, so that a growth that is refused
-//! is one of the server's; where the room itself is refused, there is nothing to show.
+//! Dialogues with refused allocations. The writer reserves its room first, so that a refused allocation is one of the server. If that room is
+//! refused, there is nothing to check.
 
 use crate::memory::limits_of;
 use dialogues::Dialogue;
@@ -12,14 +12,14 @@ use std::test::Fail;
 
 const OUT_OF_MEMORY: &[u8] = b"{\"error\":\"out-of-memory\"}\n";
 
-// A writer with room for the replies of each dialogue.
+// Returns a writer with room for the replies of each dialogue.
 fn roomy(alloc: Global) -> Result<Taker, AllocError> {
     let mut writer = all_taken(alloc);
     writer.taken.reserve(2000)?;
     Ok(writer)
 }
 
-// That the text is some first lines of the output, and then the line that says that memory was wanting.
+// Returns whether the text is some first lines of the output, followed by the out-of-memory line.
 fn is_cut_by_want(output: &[u8], text: &[u8]) -> bool {
     (0..100).any(|count| match text.strip_prefix(first_lines(output, count)) {
         Some(rest) => rest == OUT_OF_MEMORY,
@@ -27,7 +27,7 @@ fn is_cut_by_want(output: &[u8], text: &[u8]) -> bool {
     })
 }
 
-/// That the dialogue is answered whole, or up to a want of memory.
+/// Asserts that the output of a dialogue is whole, or ends with the out-of-memory line.
 pub(crate) fn is_answered_or_wants(rt: &impl Abort, alloc: Global, dialogue: &Dialogue) {
     let Ok(mut writer) = roomy(alloc) else {
         return;
@@ -53,7 +53,7 @@ fn first_dialogue_under_refusals(rt: HostRuntime) {
     is_answered_or_wants(&rt, rt.alloc(), &TREE_PRINTED);
 }
 
-// That serving to a writer that takes so many writes ends there, or at a want of memory.
+// Asserts that serving ends if the writer fails after `writes` writes, or if it is out of memory.
 fn fails_or_wants(rt: &impl Abort, alloc: Global, mut writer: Taker, writes: u8) {
     let dialogue = &TREE_PRINTED;
     let output = dialogue.output();
@@ -69,7 +69,7 @@ fn fails_or_wants(rt: &impl Abort, alloc: Global, mut writer: Taker, writes: u8)
     }
 }
 
-// Each reply is one write, and so is the line that says that memory was wanting.
+// Each reply is one write, and so is the out-of-memory line.
 #[test]
 fn failing_writers_under_refusals(rt: HostRuntime) {
     for writes in 0..3u8 {
@@ -79,7 +79,7 @@ fn failing_writers_under_refusals(rt: HostRuntime) {
     }
 }
 
-// The first of these tests, where no growth is refused.
+// Asserts the output of one dialogue if no allocation is refused.
 #[test]
 fn first_dialogue_with_memory(rt: HostRuntime) -> Result<(), Fail> {
     let dialogue = &TREE_PRINTED;

@@ -1,4 +1,4 @@
-//! Inputs, and the outputs that are due for them: the plain files of dialogues, as tools/rows.py writes them.
+//! Inputs, and their expected outputs: the plain files of dialogues, as tools/rows.py writes them.
 #![tactic(auto)]
 
 pub mod bad_input;
@@ -8,14 +8,14 @@ pub mod ranges;
 pub mod traversal;
 pub mod trees_and_data;
 
-/// Bytes as they are written in a table: a text, or bytes that are none.
+/// The bytes of a table: a text, or bytes that are not UTF-8.
 #[derive(Drop)]
 pub enum Bytes {
     Text(&'static str),
     Raw(&'static [u8]),
 }
 
-/// An input under limits, and the output that is due for it.
+/// An input under limits, and its expected output.
 #[derive(Drop)]
 pub struct Dialogue {
     pub name: &'static str,

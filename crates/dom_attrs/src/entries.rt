@@ -1,4 +1,4 @@
-//! A map from names to values, as the attributes that its entries are.
+//! The attributes of an element, as the entries of a map from names to values.
 ghost use Rattle.std.specs.Prelude.{◌≡◌, [], length, slice_get, option_map, option_copied, string_bytes, string_eq, bytes_eq, IfOk, OnOk, OnErr};
 ghost use Rattle.std.specs.List.{IsDistinct, list_any};
 ghost use Rattle.std.specs.Map.{keys_of};
@@ -9,10 +9,10 @@ use dom_units::Units;
 use indexmap::IndexMap;
 use std::alloc::{AllocError, Global};
 
-// So many entries have room in the smallest table of a map.
+// The smallest table of a map has room for this many entries.
 const FEW: usize = 9;
 
-// The number of attributes.
+// Returns the number of attributes.
 pub(crate) fn count_in(map: &IndexMap<String, Units>) -> usize
     ensures len { result ≡ length (attributes_of map.now.entries) }
     ensures distinct { IsDistinct bytes_eq (attribute_names (attributes_of map.now.entries)) }
@@ -20,14 +20,14 @@ pub(crate) fn count_in(map: &IndexMap<String, Units>) -> usize
     map.len()
 }
 
-// The value of the attribute of that name.
+// Returns the value of the attribute with a name.
 pub(crate) fn value_in<'a>(map: &'a IndexMap<String, Units>, name: &str) -> Option<&'a Units>
     ensures { option_copied result ≡ attribute_value name.now (attributes_of map.now.entries) }
 {
     map.get(name)
 }
 
-// Whether there is an attribute of that name and that value.
+// Returns whether there is an attribute with a name and a value.
 pub(crate) fn has_in(map: &IndexMap<String, Units>, name: &str, value: &Units) -> bool
     requires { IsDistinct string_eq (keys_of map.now.entries) }
     ensures { result ≡ list_any (is_attribute (record { name = name.now; value = value.now }))
@@ -39,7 +39,7 @@ pub(crate) fn has_in(map: &IndexMap<String, Units>, name: &str, value: &Units) -
     }
 }
 
-// The attribute at an index.
+// Returns the attribute at an index.
 pub(crate) fn pair_in(map: &IndexMap<String, Units>, index: usize) -> Option<(&str, &Units)>
     ensures { option_map attribute_at result ≡ slice_get (attributes_of map.now.entries) index }
 {
@@ -49,7 +49,7 @@ pub(crate) fn pair_in(map: &IndexMap<String, Units>, index: usize) -> Option<(&s
     }
 }
 
-// The map, or an empty one where there is none.
+// Returns the map, or an empty one if there is none.
 pub(crate) fn or_new(
     alloc: Global,
     map: Option<Box<IndexMap<String, Units>>>,
@@ -63,7 +63,7 @@ pub(crate) fn or_new(
     }
 }
 
-// Sets a value, and answers the old one.
+// Sets a value, and returns the old one.
 pub(crate) fn put_in(
     map: &mut IndexMap<String, Units>,
     name: String,
@@ -81,8 +81,7 @@ pub(crate) fn put_in(
     Ok(old)
 }
 
-// Gives back the room that a few entries do not fill: a map makes room for all that its smallest
-// table can hold.
+// Shrinks a map of few entries, because a map reserves room for all entries that its smallest table can hold.
 fn fit_few(map: &mut IndexMap<String, Units>)
     ensures same { map.new.entries ≡ map.old.entries }
     ensures unique { IsDistinct string_eq (keys_of map.new.entries) }
@@ -93,11 +92,10 @@ fn fit_few(map: &mut IndexMap<String, Units>)
     }
 }
 
-// Gives back room where entries went, and those that stay fill a third of it; half as many more have
-// room then.
+// Shrinks a map after a removal, if the entries that are left fill a third of it. Room for half as many again stays.
 //
-// Tables are for 9, 18, 36 entries and so on, so this is asked at 3, 6, 12 entries and so on. What a
-// map says of its capacity is not asked: a place that an entry left may be missing there.
+// Tables have room for 9, 18, 36 entries and so on, so it shrinks at 3, 6, 12 entries and so on. It does not use the map's capacity, because that may
+// not count the place of a removed entry.
 fn give_back(map: &mut IndexMap<String, Units>)
     ensures same { map.new.entries ≡ map.old.entries }
     ensures unique { IsDistinct string_eq (keys_of map.new.entries) }
@@ -108,7 +106,7 @@ fn give_back(map: &mut IndexMap<String, Units>)
     }
 }
 
-// Takes the attribute of that name out, and answers its value.
+// Removes the attribute with a name, and returns its value.
 pub(crate) fn take_from(map: &mut IndexMap<String, Units>, name: &str) -> Option<Units>
     ensures value { result ≡ attribute_value name.now (attributes_of map.old.entries) }
     ensures rest { attributes_of map.new.entries ≡ without_attribute name.now
@@ -120,7 +118,7 @@ pub(crate) fn take_from(map: &mut IndexMap<String, Units>, name: &str) -> Option
     value
 }
 
-// A copy, in memory of its own. It has the table as it stands, so no name is looked for.
+// Returns a copy in memory of its own. It copies the table, so no name is looked up.
 pub(crate) fn copied(
     alloc: Global,
     map: &IndexMap<String, Units>,

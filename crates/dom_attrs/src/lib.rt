@@ -1,4 +1,4 @@
-//! The attributes of an element: names to values, in the order in which the names came.
+//! The attributes of an element: values by name, in the order in which they were added.
 #![tactic(auto)]
 
 ghost use Rattle.std.specs.Prelude.{◌≡◌, ◌<◌, [], length, slice_get, option_map, option_copied, string_bytes, bytes_eq, IsTrue, ◌↔◌, IfOk, OnOk, OnErr, true};
@@ -15,10 +15,10 @@ mod entries;
 
 /// The attributes of an element (DOM Standard, "Interface Element").
 ///
-/// A contract sees them as the list of the attributes, in order. No two have the same name.
+/// Its view in contracts is the list of the attributes, in order. No two have the same name.
 #[derive(Debug, Drop)]
 pub struct Attrs {
-    // none until the first attribute is set, since most nodes have no attributes
+    // `None` until the first attribute is set, because most nodes have no attributes
     map: Option<Box<IndexMap<String, Units>>>,
     alloc: Global,
 }
@@ -39,14 +39,14 @@ impl Model for Attrs {
 }
 
 impl Attrs {
-    /// No attributes.
+    /// Returns an empty list of attributes. It takes no memory.
     pub fn new(alloc: Global) -> Attrs
         ensures { result ≡ [] }
     {
         Attrs { map: None, alloc }
     }
 
-    /// The number of attributes.
+    /// Returns the number of attributes.
     pub fn len(&self) -> usize
         ensures len { result ≡ length self.now }
 
@@ -59,14 +59,14 @@ impl Attrs {
         }
     }
 
-    /// Whether there is no attribute.
+    /// Returns whether there are no attributes.
     pub fn is_empty(&self) -> bool
         ensures { IsTrue result ↔ (self.now ≡ []) }
     {
         self.len() == 0
     }
 
-    /// The value of the attribute of that name ("get an attribute by name").
+    /// Returns the value of the attribute with a name (DOM Standard, "get an attribute by name").
     pub fn get(&self, name: &str) -> Option<&Units>
         ensures { option_copied result ≡ attribute_value name.now self.now }
     {
@@ -76,7 +76,7 @@ impl Attrs {
         }
     }
 
-    /// The attribute at an index, its name and its value.
+    /// Returns the name and the value of the attribute at an index.
     pub fn at(&self, index: usize) -> Option<(&str, &Units)>
         ensures { option_map attribute_at result ≡ slice_get self.now index }
     {
@@ -86,7 +86,7 @@ impl Attrs {
         }
     }
 
-    /// Sets a value: in place, or last where the name is new. It answers the old value.
+    /// Sets a value, and returns the old one. A new attribute is added at the end.
     pub fn set(&mut self, name: String, value: Units) -> Result<Option<Units>, AllocError>
         ensures old { IfOk result (λ old. old ≡ attribute_value (string_bytes name) self.old) }
         ensures ok { OnOk result (self.new ≡ with_attribute (string_bytes name) value self.old) }
@@ -98,9 +98,10 @@ impl Attrs {
         outcome
     }
 
-    /// Takes the attribute of that name out ("remove an attribute by name"); those after it move up.
-    /// It answers the value. Room past three times their number is given back where memory for a
-    /// smaller table is there; and all of it where none is left.
+    /// Removes the attribute with a name, and returns its value (DOM Standard, "remove an attribute by name"). The attributes after it move up.
+    ///
+    /// A table with room for more than three times the attributes left shrinks, if there is memory for a smaller one. It is freed if no attribute is
+    /// left.
     pub fn remove(&mut self, name: &str) -> Option<Units>
         ensures value { result ≡ attribute_value name.now self.old }
         ensures rest { self.new ≡ without_attribute name.now self.old }
@@ -113,14 +114,14 @@ impl Attrs {
         value
     }
 
-    /// Whether both have the same attributes, in whatever order. Where they have them in one order no name is looked for.
+    /// Returns whether both have the same attributes, in any order. If the order is the same, no name is looked up.
     pub fn same(&self, other: &Attrs) -> bool
         ensures { result ≡ same_attributes self.now other.now }
     {
         self.is_in_order_of(other) || (self.are_among(other) && other.are_among(self))
     }
 
-    /// A copy, in memory of its own. No name is looked for, so it takes the same time whatever the names are hashed to.
+    /// Returns a copy in memory of its own. No name is looked up, so colliding hashes do not slow it down.
     pub fn try_clone(&self, alloc: Global) -> Result<Attrs, AllocError>
         ensures { IfOk result (λ copy. copy ≡ self.now) }
     {
@@ -133,7 +134,7 @@ impl Attrs {
         }
     }
 
-    // Whether both have the same attributes in one order.
+    // Returns true only if both have the same attributes in the same order.
     fn is_in_order_of(&self, other: &Attrs) -> bool
         ensures { result ≡ true → self.now ≡ other.now }
     {
@@ -148,7 +149,7 @@ impl Attrs {
         true
     }
 
-    // Whether both have the same attribute at an index that is below the length of both.
+    // Returns true only if both have the same attribute at an index. It is below both lengths.
     fn is_alike_at(&self, other: &Attrs, index: usize) -> bool
         requires within { index < length self.now }
         requires other_within { index < length other.now }
@@ -159,7 +160,7 @@ impl Attrs {
         name == other_name && value.units() == other_value.units()
     }
 
-    // Whether each of these attributes is one of the others.
+    // Returns whether the other list has each of these attributes.
     fn are_among(&self, other: &Attrs) -> bool
         ensures { result ≡ are_among self.now other.now }
     {
@@ -172,7 +173,7 @@ impl Attrs {
         true
     }
 
-    // Whether there is an attribute of that name and that value.
+    // Returns whether there is an attribute with a name and a value.
     fn has(&self, name: &str, value: &Units) -> bool
         ensures { result ≡ list_any (is_attribute (record { name = name.now; value = value.now }))
             self.now }
@@ -183,7 +184,7 @@ impl Attrs {
         }
     }
 
-    // The attribute at an index that is below the length.
+    // Returns the attribute at an index below the length.
     fn pair_at(&self, index: usize) -> (&str, &Units)
         requires { index < length self.now }
         ensures { slice_get self.now index ≡ Some (attribute_at result) }

@@ -1,4 +1,4 @@
-//! The chains of items, by key.
+//! The buckets of items, as chains by key.
 
 ghost use Rattle.std.specs.Prelude.{◌≡◌, ℕ, ◌+◌, ◌^◌, ◌<◌, ◌≤◌, Bool, true, false, [], ◌∷◌, ◌++◌, length, map, replicate, slice_get, slice_set, swap_remove, Some, IfSome, IfNone, IfOk, OnOk, OnErr};
 ghost use Rattle.std.specs.List.{list_any};
@@ -12,7 +12,7 @@ use crate::table::{Seat, Table};
 use std::alloc::{AllocError, Global};
 use std::marker::Model;
 
-/// Items by number, without gaps, each in the chain of those that have its key.
+/// Items by number, without gaps, each in the bucket of its key.
 #[derive(Drop)]
 pub struct Chains<T, H: Heads> {
     table: Table<T, H>,
@@ -32,7 +32,7 @@ impl<T, H: Heads> Model for Chains<T, H> {
 }
 
 impl<T: Copy> Chains<T, HeadsInPages> {
-    /// No items, no key that is covered, and room for none. It takes no memory.
+    /// Returns a table without items and covered keys. It takes no memory.
     pub fn new(alloc: Global) -> Chains<T, HeadsInPages>
         ensures { result ≡ record { items = []; covered = []; room = 0 } }
     {
@@ -44,7 +44,7 @@ impl<T: Copy> Chains<T, HeadsInPages> {
         }
     }
 
-    /// Covers the keys below `made` that were not covered yet. One that was forgotten stays so.
+    /// Covers the keys below `made` that were never covered. A forgotten key stays forgotten.
     pub fn cover(&mut self, made: u64) -> Result<(), AllocError>
         requires { made ≤ 4294967295 }
         ensures ok { OnOk result (self.new ≡ record self.old {
@@ -56,7 +56,7 @@ impl<T: Copy> Chains<T, HeadsInPages> {
         Ok(())
     }
 
-    /// Forgets a key that no item has, and gives back what was kept for it. One that was never covered stays as it is. It takes no memory.
+    /// Forgets a key without items, and frees its memory. A key that was never covered stays uncovered. It takes no memory.
     pub fn forget(&mut self, key: u32)
         requires { among key (keys_of self.old.items) ≡ false }
         ensures { self.new ≡ record self.old { covered = slice_set self.old.covered key false } }
@@ -66,7 +66,7 @@ impl<T: Copy> Chains<T, HeadsInPages> {
 }
 
 impl<T: Copy> Chains<T, HeadsInList> {
-    /// No items, and no key. It takes no memory.
+    /// Returns a table without items and keys. It takes no memory.
     pub fn new(alloc: Global) -> Chains<T, HeadsInList>
         ensures { result ≡ record { items = []; covered = []; room = 0 } }
     {
@@ -78,7 +78,7 @@ impl<T: Copy> Chains<T, HeadsInList> {
         }
     }
 
-    /// No items, and so many keys that are covered.
+    /// Returns a table without items, with `count` covered keys.
     pub fn of(alloc: Global, count: usize) -> Result<Chains<T, HeadsInList>, AllocError>
         requires { count ≤ 4294967296 }
         ensures { IfOk result (λ c. c ≡ record {
@@ -96,7 +96,7 @@ impl<T: Copy> Chains<T, HeadsInList> {
         })
     }
 
-    /// How many keys there are.
+    /// Returns the number of keys.
     pub fn key_count(&self) -> usize
         ensures { result ≡ length self.now.covered }
     {
@@ -105,14 +105,14 @@ impl<T: Copy> Chains<T, HeadsInList> {
 }
 
 impl<T: Copy, H: Heads> Chains<T, H> {
-    /// How many items there are.
+    /// Returns the number of items.
     pub fn count(&self) -> usize
         ensures { result ≡ length self.now.items }
     {
         self.table.seats.len()
     }
 
-    /// An item, behind its key; none past the last.
+    /// Returns the key and the item of a number; none past the last.
     pub fn get(&self, id: usize) -> Option<(u32, T)>
         ensures { result ≡ slice_get self.now.items id }
     {
@@ -124,14 +124,14 @@ impl<T: Copy, H: Heads> Chains<T, H> {
         }
     }
 
-    /// Whether a key is covered.
+    /// Returns whether a key is covered.
     pub fn is_covered(&self, key: u32) -> bool
         ensures { result ≡ covers self.now.covered key }
     {
         self.table.heads.first(key).is_some()
     }
 
-    /// Some item that has a key, none where no item has it.
+    /// Returns the number of an item with a key, if any.
     pub fn first(&self, key: u32) -> Option<usize>
         ensures some { IfSome result (λ id. key_at self.now.items id ≡ Some key) }
         ensures none { IfNone result (among key (keys_of self.now.items) ≡ false) }
@@ -139,14 +139,14 @@ impl<T: Copy, H: Heads> Chains<T, H> {
         self.table.head(key).get()
     }
 
-    /// Whether an item has a key.
+    /// Returns whether an item has a key.
     pub fn has(&self, key: u32) -> bool
         ensures { result ≡ among key (keys_of self.now.items) }
     {
         self.first(key).is_some()
     }
 
-    /// Whether a test says yes of an item of a key. It walks the chain of that key and no other.
+    /// Returns whether a test holds for an item of a key. Visits the items of that key only.
     pub fn any_at<F: Fn(T) -> bool>(&self, key: u32, test: F) -> bool
         requires { F.IsAlwaysCallable test }
         ensures { (says : T → Bool) →
@@ -164,7 +164,7 @@ impl<T: Copy, H: Heads> Chains<T, H> {
         false
     }
 
-    /// Makes room for so many more items. Room that was there stays, also where more is refused.
+    /// Reserves room for more items. On an error the old room stays.
     pub fn reserve(&mut self, additional: usize) -> Result<(), AllocError>
         ensures room { OnOk result (additional ≤ self.new.room) }
         ensures kept { self.old.room ≤ self.new.room }
@@ -175,7 +175,7 @@ impl<T: Copy, H: Heads> Chains<T, H> {
         Ok(())
     }
 
-    /// Adds an item with the next number, for which there is room. It takes no memory.
+    /// Adds an item with the next number, within reserved room. It takes no memory.
     pub fn push_reserved(&mut self, key: u32, item: T)
         requires room { 0 < self.old.room }
         requires few { length self.old.items < 2 ^ 33 }
@@ -194,7 +194,7 @@ impl<T: Copy, H: Heads> Chains<T, H> {
         self.table.link(id, key, item);
     }
 
-    /// Writes an item with its key. It keeps its place in the chain where it has that key already, and comes first where it does not.
+    /// Writes an item with its key. An item that already has the key keeps its position in the bucket; any other becomes the first.
     pub fn place(&mut self, id: usize, key: u32, item: T)
         requires within { id < length self.old.items }
         requires covered { covers self.old.covered key ≡ true }
@@ -203,7 +203,7 @@ impl<T: Copy, H: Heads> Chains<T, H> {
         self.table.place(id, key, item);
     }
 
-    /// Takes an item out. The last item gets its number. It takes no memory.
+    /// Removes an item. The last item gets its number. It takes no memory.
     pub fn swap_remove(&mut self, id: usize)
         requires { id < length self.old.items }
         ensures items { IfSome (slice_get self.old.items id)
@@ -218,7 +218,7 @@ impl<T: Copy, H: Heads> Chains<T, H> {
         self.table.seats.truncate(last);
     }
 
-    /// Changes the items of a key. It walks the chain of that key and no other.
+    /// Changes the items of a key. Visits the items of that key only.
     pub fn change<C: Change<T>>(&mut self, key: u32, change: &C)
         requires { CanChange (C.CanTake change.now) (C.changed change.now) key self.old.items
             self.old.covered }
@@ -235,7 +235,7 @@ impl<T: Copy, H: Heads> Chains<T, H> {
         }
     }
 
-    /// A law: it does nothing, and its contract tells what holds of items and keys at any time.
+    /// States a law, and does nothing: its contract holds for all items and keys at any time.
     pub fn sound(&self)
         ensures covered { (key : ℕ) → among key (keys_of self.now.items) ≡ true →
             covers self.now.covered key ≡ true }

@@ -1,16 +1,16 @@
-//! How items of a key change.
+//! Changes of the items of a key.
 
 ghost use Rattle.std.specs.Prelude.{◌≡◌, ℕ};
 
 /// A change of an item and of its key.
 pub trait Change<T> {
-    // what becomes of an item with its key
+    // the key and the item after the change
     ghost changed: { Self → ℕ × T → ℕ × T };
 
-    // what must hold of an item that is changed
+    // the condition on an item that is changed
     ghost CanTake: { Self → ℕ × T → Type 0 };
 
-    /// What becomes of an item with its key.
+    /// Returns the key and the item after the change.
     fn apply(&self, key: u32, item: T) -> (u32, T)
         requires { CanTake self.now (key, item) }
         ensures { result ≡ changed self.now (key, item) };

@@ -7,12 +7,12 @@ use crate::link::{HeadCell, Link};
 use dom_pages::Pages;
 use std::alloc::{AllocError, Global};
 
-/// For each covered key the first item of its chain.
+/// The first item of each covered key's chain.
 pub trait Heads {
-    // by key the first item of its chain, nothing where the key is not covered
+    // the first item of a key's chain, nothing if the key is not covered
     ghost by_key: { Self → List (Option (Option ℕ)) };
 
-    /// The first item of a key's chain; nothing where the key is not covered.
+    /// Returns the first item of a key's chain; none if the key is not covered.
     fn first(&self, key: u32) -> Option<Link>
         ensures { result ≡ item_at (by_key self.now) key };
 
@@ -22,7 +22,7 @@ pub trait Heads {
         ensures { by_key self.new ≡ slice_set (by_key self.old) key (Some first) };
 }
 
-/// Heads in pages: for keys that come in order, and are forgotten. A page whose keys were all forgotten gives its memory back.
+/// Heads in pages: for keys that are added in order and forgotten. A page whose keys were all forgotten is freed.
 #[derive(Drop)]
 pub struct HeadsInPages {
     heads: Pages<Link, HeadCell>,
@@ -49,7 +49,7 @@ impl HeadsInPages {
         }
     }
 
-    /// Covers the keys below `made` of which it does not know yet.
+    /// Covers the keys below `made` that were never covered.
     pub(crate) fn cover(&mut self, made: u64) -> Result<(), AllocError>
         requires { made ≤ 4294967295 }
         ensures ok { OnOk result (self.new.heads.items ≡ self.old.heads.items
@@ -68,7 +68,7 @@ impl HeadsInPages {
         Ok(())
     }
 
-    /// Covers a key no more, if it ever was.
+    /// Uncovers a key, if it is covered.
     pub(crate) fn forget(&mut self, key: u32)
         ensures { self.new.heads.items ≡ slice_set self.old.heads.items key None }
     {
@@ -79,7 +79,7 @@ impl HeadsInPages {
     }
 }
 
-/// Heads in a list: for keys that are there from the beginning.
+/// Heads in a list: for a fixed number of keys.
 #[derive(Drop)]
 pub struct HeadsInList {
     heads: Vec<Link>,
@@ -106,7 +106,7 @@ impl HeadsInList {
         }
     }
 
-    /// So many keys, which no item has yet.
+    /// Returns heads for `count` keys without items.
     pub(crate) fn of(alloc: Global, count: usize) -> Result<HeadsInList, AllocError>
         ensures { IfOk result (λ h. h.heads.items ≡ replicate count None) }
     {
@@ -114,7 +114,7 @@ impl HeadsInList {
         Ok(HeadsInList { heads })
     }
 
-    /// How many keys there are.
+    /// Returns the number of keys.
     pub(crate) fn count(&self) -> usize
         ensures { result ≡ length self.now.heads.items }
     {

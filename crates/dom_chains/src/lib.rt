@@ -1,7 +1,7 @@
-//! Items that have numbers without gaps, each in the chain of those that have its key.
+//! Items in buckets by key. Items are numbered without gaps.
 //!
-//! A key knows the first item of its chain, an item the ones on both sides of it. So to find the items of a key takes a time that grows with
-//! how many these are, and to take one out or to give it another key takes the same time however many there are, and no memory.
+//! Each bucket is a chain: a key has the first item, and each item has the previous and the next. So visiting a bucket takes time in proportion to
+//! its items. Removing an item, or giving it another key, takes constant time and no memory.
 #![tactic(auto)]
 
 mod chains;

@@ -1,6 +1,6 @@
-//! Links to items by their numbers, and what a table keeps for them.
+//! Links to items by number, and the cells of a paged table of them.
 //!
-//! Each takes the room of a number alone: the highest ones, which no item has, stand for what is not there.
+//! Each is as large as a number: the two highest, which no item has, stand for none and for a key that is not covered.
 
 ghost use Rattle.std.specs.Prelude.{◌≡◌, ◌<◌, ◌^◌, Some, None};
 ghost use Rattle.dom_chains.specs.Kept.{head_kept};
@@ -34,14 +34,14 @@ impl Model for Link {
 }
 
 impl Link {
-    /// Leads nowhere.
+    /// Returns a link to nothing.
     pub(crate) fn none() -> Link
         ensures { result ≡ None }
     {
         Link { index: NOWHERE }
     }
 
-    /// Leads to an item.
+    /// Returns a link to an item.
     pub(crate) fn to(id: usize) -> Link
         requires { id < 2 ^ 33 }
         ensures { result ≡ Some id }
@@ -49,7 +49,7 @@ impl Link {
         Link { index: id }
     }
 
-    /// Where it leads.
+    /// Returns the item that it leads to, if any.
     pub(crate) fn get(self) -> Option<usize>
         ensures { result ≡ self }
     {
@@ -61,7 +61,7 @@ impl Link {
     }
 }
 
-/// The first link of a covered key, or none for a key that is not covered.
+/// The first link of a covered key, or none if the key is not covered.
 #[derive(Clone, Copy)]
 pub(crate) struct HeadCell {
     index: usize,

@@ -1,4 +1,4 @@
-//! Seats of items, which tell of each chain what lies on both sides of an item.
+//! Seats of items: each has the item's neighbours in its chain.
 
 ghost use Rattle.std.specs.Prelude.{◌≡◌, ◌<◌, true, length, slice_get, slice_set, Some};
 ghost use Rattle.dom_chains.specs.Keyed.{covers};
@@ -16,7 +16,7 @@ pub(crate) struct Seat<T> {
     pub(crate) next: Link,
 }
 
-/// The seats of all items, and for each covered key the first item of its chain.
+/// The seats of all items, and the first item of each covered key's chain.
 #[derive(Drop)]
 pub(crate) struct Table<T, H> {
     pub(crate) seats: Vec<Seat<T>>,
@@ -24,7 +24,7 @@ pub(crate) struct Table<T, H> {
 }
 
 impl<T: Copy, H: Heads> Table<T, H> {
-    /// The seat of an item.
+    /// Returns the seat of an item.
     pub(crate) fn seat(&self, id: usize) -> Seat<T>
         requires { id < length (items_of self.now) }
         ensures item { slice_get (items_of self.now) id ≡ Some (result.key, result.item) }
@@ -34,14 +34,14 @@ impl<T: Copy, H: Heads> Table<T, H> {
         self.seats[id]
     }
 
-    /// The first item of a key's chain.
+    /// Returns the first item of a key's chain.
     pub(crate) fn head(&self, key: u32) -> Link
         ensures { result ≡ head_at (H.by_key self.now.heads) key }
     {
         self.heads.first(key).unwrap_or(Link::none())
     }
 
-    // What follows `prev` in the chain of a key becomes `next`.
+    // Links `prev` forward to `next`; without a `prev`, `next` becomes the first item of the key's chain.
     fn lead_on(&mut self, prev: Link, key: u32, next: Link)
         requires covered { covers (keyed H.by_key self.old).covered key ≡ true }
         requires link { ForLink prev (length (links_of H.by_key self.old).nexts) }
@@ -58,7 +58,7 @@ impl<T: Copy, H: Heads> Table<T, H> {
         }
     }
 
-    // What comes before `next` becomes `prev`.
+    // Links `next`, if any, back to `prev`.
     fn lead_back(&mut self, next: Link, prev: Link)
         requires { ForLink next (length (links_of H.by_key self.old).prevs) }
         ensures same { keyed H.by_key self.new ≡ keyed H.by_key self.old }
@@ -71,7 +71,7 @@ impl<T: Copy, H: Heads> Table<T, H> {
         }
     }
 
-    /// Takes an item out of the chain of its key.
+    /// Removes an item from its chain.
     pub(crate) fn unlink(&mut self, id: usize)
         requires within { id < length (items_of self.old) }
         requires chains { AreChained H.by_key self.old }
@@ -84,7 +84,7 @@ impl<T: Copy, H: Heads> Table<T, H> {
         self.lead_back(seat.next, seat.prev);
     }
 
-    /// Writes an item that is in no chain, first in that of its key.
+    /// Writes an item that is in no chain, and makes it the first of its key's chain.
     pub(crate) fn link(&mut self, id: usize, key: u32, item: T)
         requires within { id < length (items_of self.old) }
         requires covered { covers (keyed H.by_key self.old).covered key ≡ true }
@@ -106,7 +106,7 @@ impl<T: Copy, H: Heads> Table<T, H> {
         self.heads.begin(key, Link::to(id));
     }
 
-    /// Writes an item with its key. It keeps its place in the chain where it has that key already, and comes first where it does not.
+    /// Writes an item with its key. An item that already has the key keeps its position in the chain; any other becomes the first.
     pub(crate) fn place(&mut self, id: usize, key: u32, item: T)
         requires within { id < length (items_of self.old) }
         requires covered { covers (keyed H.by_key self.old).covered key ≡ true }

@@ -1,4 +1,4 @@
-//! The numbers by which callers name things.
+//! Ids: the numbers that callers use for things.
 #![tactic(auto)]
 
 ghost use Rattle.std.proofs.Common.{rules};
@@ -7,9 +7,9 @@ ghost use Rattle.std.specs.Prelude.{◌≡◌, nat_eq};
 
 use std::marker::{Model, PhantomData};
 
-/// The number by which callers name a thing of a kind: the first that is made has 0, and no number is used again.
+/// The number of a thing of a kind, for callers. The first thing made gets 0, and no number is reused.
 ///
-/// Ids of different kinds are different types, so none is passed for another.
+/// Ids of different kinds have different types, so they cannot be confused.
 #[derive(Clone, Copy, Debug, Hash, Drop)]
 pub struct Id<K> {
     number: u32,
@@ -43,7 +43,7 @@ impl<K> Eq for Id<K> {
 }
 
 impl<K> Id<K> {
-    /// The id of a number, whether or not there is such a thing.
+    /// Returns the id with a number, whether or not such a thing exists.
     pub fn new(number: u32) -> Id<K>
         ensures { result ≡ number }
     {
@@ -53,7 +53,7 @@ impl<K> Id<K> {
         }
     }
 
-    /// The number itself.
+    /// Returns the number.
     pub fn number(self) -> u32
         ensures { result ≡ self }
     {

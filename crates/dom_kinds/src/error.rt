@@ -1,10 +1,10 @@
-//! The name and the code of an exception.
+//! The names and codes of exceptions.
 ghost use Rattle.std.specs.Prelude.{◌≡◌, ℕ, List};
 ghost use Rattle.dom_model.specs.Commands.Refusal.{name_of_error, code_of_error};
 
 use dom_model::DomError;
 
-/// What has a name and a code (Web IDL, "DOMException").
+/// Exceptions with a name and a code (Web IDL, "DOMException").
 pub trait Exception {
     // the name of a value, as UTF-8
     ghost name_of: { Self → List ℕ };
@@ -12,11 +12,11 @@ pub trait Exception {
     // the code of a value
     ghost code_of: { Self → ℕ };
 
-    /// `name`.
+    /// Returns the exception's `name`.
     fn name(self) -> &'static str
         ensures { result.now ≡ name_of self };
 
-    /// `code`; 0 for `TypeError`, which has none in the standard.
+    /// Returns the exception's `code`; 0 for `TypeError`, which has none in the standard.
     fn code(self) -> u16
         ensures { result ≡ code_of self };
 }

@@ -1,16 +1,16 @@
-//! The number of a kind, and what nodes of a kind may have.
+//! The number of a kind, and whether its nodes may have children or character data.
 
 ghost use Rattle.std.specs.Prelude.{◌≡◌, ℕ};
 ghost use Rattle.dom_model.specs.Forests.Kinds.{number_of_kind, may_be_parent, is_character_data};
 
 use dom_model::Kind;
 
-/// What has a `nodeType` (DOM Standard, "Interface Node").
+/// Values with a `nodeType` (DOM Standard, "Interface Node").
 pub trait NodeType {
     // the number of a value
     ghost number_of: { Self → ℕ };
 
-    /// `nodeType`, the constants of "Interface Node".
+    /// Returns the `nodeType` constant (DOM Standard, "Interface Node").
     fn number(self) -> u16
         ensures { result ≡ number_of self };
 }
@@ -31,7 +31,7 @@ impl NodeType for Kind {
     }
 }
 
-/// Whether nodes of a kind may have children (DOM Standard, "Trees").
+/// Returns whether nodes of a kind may have children (DOM Standard, "Trees").
 pub fn may_be_parent(kind: Kind) -> bool
     ensures { result ≡ may_be_parent kind }
 {
@@ -41,7 +41,7 @@ pub fn may_be_parent(kind: Kind) -> bool
     )
 }
 
-/// Whether nodes of a kind have character data (DOM Standard, "Interface CharacterData").
+/// Returns whether nodes of a kind have character data (DOM Standard, "Interface CharacterData").
 pub fn is_character_data(kind: Kind) -> bool
     ensures { result ≡ is_character_data kind }
 {

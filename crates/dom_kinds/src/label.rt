@@ -1,4 +1,4 @@
-//! What a node is labelled with.
+//! The label of a node: its kind, name and ids.
 ghost use Rattle.std.specs.Prelude.{◌≡◌, [], IfOk, string_bytes};
 ghost use Rattle.dom_model.specs.Forests.Kinds.{node_name};
 ghost use Rattle.dom_model.specs.Worlds.Making.{named};
@@ -10,10 +10,10 @@ use dom_model::Kind;
 use std::alloc::{AllocError, Global};
 use std::marker::Model;
 
-/// What stands on a node besides its data, attributes and children. It takes 32 bytes.
+/// A node's kind, name and ids: all of a node except its data, attributes and children. It takes 32 bytes.
 ///
-/// It has the name of an Element or a DocumentType or the target of a ProcessingInstruction, and the ids of a
-/// DocumentType; where the kind has none, the text is empty.
+/// The name is that of an Element or a DocumentType, or the target of a ProcessingInstruction. Only a DocumentType has ids. A text that the kind does
+/// not have is empty.
 #[derive(Debug, Drop)]
 pub struct Label {
     pub kind: Kind,
@@ -30,7 +30,7 @@ impl Model for Label {
 }
 
 impl Label {
-    /// A label without ids. It takes memory only where the name has more than 8 bytes.
+    /// Returns a label without ids. It takes memory only if the name has more than 8 bytes.
     pub fn named(alloc: Global, kind: Kind, name: &str) -> Result<Label, AllocError>
         ensures { IfOk result (λ made. made ≡ named kind name.now) }
     {
@@ -38,7 +38,7 @@ impl Label {
         Ok(Label { kind, texts })
     }
 
-    /// A label of a kind that has no name. It takes no memory.
+    /// Returns the label of a kind without names. It takes no memory.
     pub fn nameless(kind: Kind) -> Label
         ensures { result ≡ named kind [] }
     {
@@ -48,7 +48,7 @@ impl Label {
         }
     }
 
-    /// The label of a DocumentType. It takes memory where an id is not empty, or the name is long.
+    /// Returns the label of a DocumentType. It takes memory if an id is not empty, or if the name has more than 8 bytes.
     pub fn doctype(
         alloc: Global,
         name: String,
@@ -68,28 +68,28 @@ impl Label {
         })
     }
 
-    /// The name of an Element or a DocumentType, or the target of a ProcessingInstruction.
+    /// Returns the name of an Element or a DocumentType, or the target of a ProcessingInstruction.
     pub fn name(&self) -> &str
         ensures { result.now ≡ self.now.name }
     {
         self.texts.name()
     }
 
-    /// The public id of a DocumentType.
+    /// Returns the public id of a DocumentType.
     pub fn public_id(&self) -> &str
         ensures { result.now ≡ self.now.public_id }
     {
         self.texts.public_id()
     }
 
-    /// The system id of a DocumentType.
+    /// Returns the system id of a DocumentType.
     pub fn system_id(&self) -> &str
         ensures { result.now ≡ self.now.system_id }
     {
         self.texts.system_id()
     }
 
-    /// A copy, in memory of its own.
+    /// Returns a copy in memory of its own.
     pub fn try_clone(&self, alloc: Global) -> Result<Label, AllocError>
         ensures { IfOk result (λ copy. copy ≡ self.now) }
     {
@@ -100,7 +100,7 @@ impl Label {
         })
     }
 
-    /// `nodeName` (DOM Standard, "Interface Node").
+    /// Returns the `nodeName` (DOM Standard, "Interface Node").
     pub fn node_name(&self) -> &str
         ensures { result.now ≡ node_name self.now }
     {

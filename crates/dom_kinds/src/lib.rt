@@ -1,4 +1,4 @@
-//! The kinds of node, what a node is labelled with, which names are valid, and the exceptions of the standard.
+//! Node kinds and labels, valid names, and the exceptions of the standard.
 #![tactic(auto)]
 
 pub mod error;

@@ -1,9 +1,9 @@
-//! Which names are valid (DOM Standard, "Name validation").
+//! Valid names (DOM Standard, "Name validation").
 ghost use Rattle.std.specs.Prelude.{◌≡◌, ◌∷◌};
 ghost use Rattle.std.specs.List.{list_all};
 ghost use Rattle.dom_model.specs.Forests.Names.{is_ascii_letter, is_ascii_digit, is_ascii_white_space, is_other_name_start, may_follow_letter, may_follow_other, may_stand_in_attribute_name, may_stand_in_doctype_name, is_element_name, is_attribute_name, is_doctype_name};
 
-/// Whether an element may have the name, or a processing instruction the target.
+/// Returns whether a name is valid for an element, or as the target of a processing instruction (DOM Standard, "Name validation").
 pub fn is_element_name(name: &str) -> bool
     ensures { result ≡ is_element_name name.now }
 {
@@ -13,14 +13,14 @@ pub fn is_element_name(name: &str) -> bool
     }
 }
 
-/// Whether an attribute may have the name.
+/// Returns whether a name is valid for an attribute (DOM Standard, "Name validation").
 pub fn is_attribute_name(name: &str) -> bool
     ensures { result ≡ is_attribute_name name.now }
 {
     !name.is_empty() && all_in_attribute_name(name.as_bytes())
 }
 
-/// Whether a doctype may have the name; it may be empty.
+/// Returns whether a name is valid for a doctype; an empty one is (DOM Standard, "Name validation").
 pub fn is_doctype_name(name: &str) -> bool
     ensures { result ≡ is_doctype_name name.now }
 {
@@ -29,7 +29,7 @@ pub fn is_doctype_name(name: &str) -> bool
         .all(|byte| may_stand_in_doctype_name(*byte))
 }
 
-// Whether an element name may be this byte and then these.
+// Returns whether a first byte and the bytes after it are a valid element name.
 fn starts_name(first: u8, rest: &[u8]) -> bool
     ensures { result ≡ is_element_name (first ∷ rest.now) }
 {

@@ -1,4 +1,4 @@
-//! The texts of a label.
+//! The texts of a label: its name and its ids.
 
 ghost use Rattle.std.specs.Prelude.{◌≡◌, [], IfOk, string_bytes};
 ghost use Rattle.dom_kinds.specs.Texts.{name_in, public_in, system_in};
@@ -6,9 +6,9 @@ ghost use Rattle.dom_kinds.specs.Texts.{name_in, public_in, system_in};
 use arrayvec::ArrayString;
 use std::alloc::{AllocError, Global};
 
-/// A name, or the name, the public and the system id of a doctype: few nodes are doctypes with an id.
+/// A name, or the name, the public id and the system id of a doctype. Few nodes are doctypes with an id.
 ///
-/// A name of at most 8 bytes lies in place. So most nodes take no memory for their texts.
+/// A name of at most 8 bytes is stored inline, so most nodes take no memory for their texts.
 #[derive(Debug, Drop)]
 pub(crate) enum Texts {
     Short(ArrayString<8>),
@@ -17,7 +17,7 @@ pub(crate) enum Texts {
 }
 
 impl Texts {
-    /// A name alone. It takes memory only where the name is long.
+    /// Returns a name without ids. It takes memory only if the name has more than 8 bytes.
     pub(crate) fn named(alloc: Global, name: &str) -> Result<Texts, AllocError>
         ensures name { IfOk result (λ made. name_in made ≡ name.now) }
         ensures public_id { IfOk result (λ made. public_in made ≡ []) }
@@ -58,7 +58,7 @@ impl Texts {
         }
     }
 
-    /// A copy, in memory of its own.
+    /// Returns a copy in memory of its own.
     pub(crate) fn try_clone(&self, alloc: Global) -> Result<Texts, AllocError>
         ensures name { IfOk result (λ copy. name_in copy ≡ name_in self.now) }
         ensures public_id { IfOk result (λ copy. public_in copy ≡ public_in self.now) }
@@ -72,7 +72,7 @@ impl Texts {
     }
 }
 
-// A copy of the texts of a doctype, in memory of its own.
+// Returns a copy of the texts of a doctype in memory of its own.
 fn copied(
     alloc: Global,
     texts: &(String, String, String),

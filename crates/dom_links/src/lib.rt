@@ -1,5 +1,6 @@
-//! A store of linked nodes: each has a value, a parent or none, and an ordered list of children.
-//! Nodes stand in memory of their own and point at one another, so each step and each change of links takes the same time at any size.
+//! An arena of linked nodes. Each has a value, a parent or none, and an ordered list of children.
+//!
+//! Nodes have memory of their own and point at one another, so each step and each change of links takes constant time.
 #![tactic(auto)]
 
 mod links;

@@ -1,4 +1,4 @@
-//! The store by its slots alone: nothing above it knows of places.
+//! The store with slots alone as handles: its interface has no places.
 ghost use Rattle.std.specs.Prelude.{◌≡◌, ℕ, ◌^◌, ◌<◌, [], length, None, Some, IsSome, is_some, IfSome, IfOk, OnOk, IfErr, OnErr};
 ghost use Rattle.std.specs.Option.{ForSome};
 
@@ -6,7 +6,7 @@ use crate::store::Store;
 use std::alloc::Global;
 use std::marker::Model;
 
-/// A slot of a store: a whole number, given by `add`.
+/// A slot of a store: a whole number, which `add` returns.
 #[derive(Clone, Copy, Debug, PartialEq, Eq)]
 pub struct Slot {
     index: usize,
@@ -23,14 +23,14 @@ impl Model for Slot {
 }
 
 impl Slot {
-    /// The slot of a number, whether or not a store has it.
+    /// Returns the slot with a number, whether or not a store has it.
     pub fn at(index: usize) -> Slot
         ensures { result ≡ index }
     {
         Slot { index }
     }
 
-    /// The number itself.
+    /// Returns the number.
     pub fn number(self) -> usize
         ensures { result ≡ self }
     {
@@ -38,7 +38,7 @@ impl Slot {
     }
 }
 
-/// Hands back the value that could not be stored.
+/// An error with the value that could not be stored.
 #[derive(Debug, Drop)]
 pub struct Refused<T> {
     pub value: T,
@@ -46,7 +46,7 @@ pub struct Refused<T> {
 
 /// A store of linked nodes, each in a slot of its own. It has at most 4,294,967,295 slots.
 ///
-/// Dropping it drops every value and frees every node.
+/// If it is dropped, it drops each value and frees each node.
 #[derive(Drop)]
 pub struct Links<T> {
     store: Store<T>,
@@ -66,7 +66,7 @@ impl<T> Links<T> {
     ghost use Rattle.dom_model.specs.Forests.Arena.{entry_at, parent_in, children_in, next_in, previous_in, IsHeld, IsSound, StandsUnder, no_slots, next_slot, added, linked, unlinked, taken};
     ghost use Rattle.dom_links.specs.Lends.{lends_value};
 
-    /// A store with no slot. It takes no memory.
+    /// Returns a store without slots. It takes no memory.
     pub fn new(alloc: Global) -> Links<T>
         ensures { result ≡ no_slots }
     {
@@ -75,8 +75,9 @@ impl<T> Links<T> {
         }
     }
 
-    /// Puts the value into a slot of its own, linked to nothing.
-    /// It fails only where there is no memory, or where all 4,294,967,295 slots are held.
+    /// Stores a value in a slot of its own, without links.
+    ///
+    /// Fails if it is out of memory, or if all 4,294,967,295 slots are held.
     pub fn add(&mut self, value: T) -> Result<Slot, Refused<T>>
         ensures slot { IfOk result (λ slot. slot ≡ next_slot self.old) }
         ensures fresh { IfOk result (λ slot. entry_at self.old slot ≡ None) }
@@ -117,7 +118,7 @@ impl<T> Links<T> {
         self.store.slot_for(link)
     }
 
-    /// The next sibling.
+    /// Returns the next sibling.
     pub fn next(&self, slot: Slot) -> Option<Slot>
         requires { IsHeld self.now slot }
         ensures { result ≡ next_in (entry_at self.now) slot }
@@ -126,7 +127,7 @@ impl<T> Links<T> {
         self.store.slot_for(link)
     }
 
-    /// The previous sibling.
+    /// Returns the previous sibling.
     pub fn prev(&self, slot: Slot) -> Option<Slot>
         requires { IsHeld self.now slot }
         ensures { result ≡ previous_in (entry_at self.now) slot }
@@ -135,7 +136,7 @@ impl<T> Links<T> {
         self.store.slot_for(link)
     }
 
-    /// How many children there are. It takes no walk.
+    /// Returns the number of children, in constant time.
     pub fn count(&self, slot: Slot) -> usize
         requires { IsHeld self.now slot }
         ensures { result ≡ length (children_in (entry_at self.now slot)) }
@@ -159,7 +160,7 @@ impl<T> Links<T> {
         self.store.value_mut(place)
     }
 
-    /// Makes the child one of the parent's, just before `before`, or the last.
+    /// Inserts a node into a parent's children before `before`, or as the last.
     pub fn link(&mut self, parent: Slot, child: Slot, before: Option<Slot>)
         requires parent_held { IsHeld self.old parent }
         requires child_held { IsHeld self.old child }
@@ -175,7 +176,7 @@ impl<T> Links<T> {
         self.store.link(top, node, next);
     }
 
-    /// Takes the child out of its parent's children. Its own children stay with it.
+    /// Removes a node from its parent's children. Its own children stay linked to it.
     pub fn unlink(&mut self, child: Slot)
         requires { IsSome (parent_in (entry_at self.old child)) }
         ensures { self.new ≡ unlinked self.old child }
@@ -184,7 +185,7 @@ impl<T> Links<T> {
         self.store.unlink(place);
     }
 
-    /// Empties the slot, which the next `add` fills. It takes no memory.
+    /// Empties a slot, and returns its value. The next `add` fills the slot. It takes no memory.
     pub fn take(&mut self, slot: Slot) -> T
         requires no_parent { parent_in (entry_at self.old slot) ≡ None }
         requires no_child { children_in (entry_at self.old slot) ≡ [] }
@@ -195,7 +196,7 @@ impl<T> Links<T> {
         self.store.take(slot)
     }
 
-    /// A law: what a closed store keeps.
+    /// States a law, and does nothing: its contract holds for any store.
     pub fn sound(&self)
         ensures { IsSound self.now }
     {

@@ -1,12 +1,12 @@
-//! A node of the store, and the links that it has to others.
+//! A node of the store, and its links to others.
 ghost use Rattle.std.specs.Prelude.{◌≡◌};
 ghost use Rattle.dom_links.specs.Wiring.{alone_node};
 
 use crate::place::Link;
 
-/// A value with its links. It takes 48 bytes beside the value.
+/// A value with its links. They take 48 bytes besides the value.
 ///
-/// What a walk reads comes first: the links that lead up, on and down, and how the value begins.
+/// The fields that a walk reads are first: the links to the parent, the next sibling and the first child, and the beginning of the value.
 #[derive(Drop)]
 pub struct Node<T> {
     pub(crate) parent: Link,
@@ -19,7 +19,7 @@ pub struct Node<T> {
     pub(crate) count: u32,
 }
 
-/// A node that is linked to nothing.
+/// Returns a node without links.
 pub(crate) fn alone<T>(slot: u32, value: T) -> Node<T>
     ensures { result ≡ alone_node slot value }
 {
@@ -35,7 +35,7 @@ pub(crate) fn alone<T>(slot: u32, value: T) -> Node<T>
     }
 }
 
-/// What a node leaves when it is taken apart.
+/// Returns the value of a node, and discards its links.
 pub(crate) fn value_of<T>(node: Node<T>) -> T
     ensures { result ≡ node.value }
 {

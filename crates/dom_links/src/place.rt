@@ -1,4 +1,4 @@
-//! Where nodes lie. What lies there is the pool's to know: a place owns nothing, and no number can be made of it.
+//! Places of nodes: addresses that own nothing. The pool alone reads the nodes there, and a place cannot be made from a number.
 ghost use Rattle.std.specs.Prelude.{◌≡◌, Some, None};
 ghost use Rattle.dom_links.specs.Pointers.{IsPlace};
 
@@ -6,7 +6,7 @@ use crate::pool::NodePtr;
 use std::marker::Model;
 use std::ptr::{NonNull, null_mut};
 
-/// Where a node lies. It owns nothing: what it stands for, and whether it stands for anything still, the store tells.
+/// The address of a node. It owns nothing: the store has the node's slot, and whether the node still exists.
 #[derive(Clone, Copy)]
 pub struct Place {
     ptr: *mut u8,
@@ -46,7 +46,7 @@ impl Place {
     }
 }
 
-/// A place, or none. It takes the room of one pointer: none is null.
+/// A place, or none. It is as large as one pointer: none is null.
 #[derive(Clone, Copy)]
 pub struct Link {
     ptr: *mut u8,
@@ -69,21 +69,21 @@ impl Model for Link {
 }
 
 impl Link {
-    /// Leads nowhere.
+    /// Returns a link to nothing.
     pub fn none() -> Link
         ensures { result ≡ None }
     {
         Link { ptr: null_mut() }
     }
 
-    /// Leads to the place.
+    /// Returns a link to a place.
     pub fn to(place: Place) -> Link
         ensures { result ≡ Some place }
     {
         Link { ptr: place.ptr }
     }
 
-    /// Where it leads. This alone tells null from a place.
+    /// Returns the place that it leads to. Only this function checks for null.
     pub fn get(self) -> Option<Place>
         ensures { result ≡ self }
     {

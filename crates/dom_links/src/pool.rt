@@ -1,6 +1,6 @@
-//! The owner of the nodes' memory. It knows nothing of links: to it a node is a value at a place.
+//! The owner of the nodes' memory. It does not know about links: a node is a value at an address.
 //!
-//! These functions alone follow a pointer. A pool has no `Drop`: only `close` ends it, and only once it is empty.
+//! Only these functions follow a pointer. A pool is not `Drop`: only `close` ends it, and only if it is empty.
 ghost use Rattle.std.specs.Prelude.{◌≡◌, ℕ, ◌<◌, List, [], ◌∷◌, ⊤, Some, None, IsSome};
 ghost use Rattle.std.specs.Borrow.{sem};
 ghost use Rattle.core.specs.Mem.{type_size};
@@ -13,7 +13,7 @@ use std::alloc::{AllocError, Global};
 use std::marker::{Model, PhantomData};
 use std_alloc::room::Vacant;
 
-/// Where a node lies. It owns nothing.
+/// The address of a node. It owns nothing.
 pub struct NodePtr<N> {
     pub(crate) ptr: *mut N,
 }
@@ -30,13 +30,13 @@ impl<N> Clone for NodePtr<N> {
 
 impl<N> Copy for NodePtr<N> {}
 
-/// A block with room for one node. It is no `Drop`, and its field is its own: so a room ends by `Pool::put` or by `free`, and by nothing else.
+/// A block with room for one node. It is not `Drop`, and its field is private: only `Pool::put` and `free` end it.
 pub struct Room<N> {
     vacant: Vacant<N, Global>,
 }
 
 impl<N> Room<N> {
-    /// A block, or the allocator where there is no memory.
+    /// Allocates a block; returns the allocator if it is out of memory.
     pub fn take(alloc: Global) -> Result<Room<N>, Global> {
         match Vacant::take(alloc) {
             Ok(vacant) => Ok(Room { vacant }),
@@ -44,14 +44,14 @@ impl<N> Room<N> {
         }
     }
 
-    /// Gives the block back.
+    /// Frees the block.
     pub fn free(self) {
         let Room { vacant } = self;
         let _ = vacant.free();
     }
 }
 
-/// The owner of a block for each node that was put in and not yet taken. It takes no space.
+/// The owner of a block for each node that was put and not yet taken. It takes no space.
 pub struct Pool<N> {
     mark: PhantomData<*mut N>,
     ghost cells: { List (Ptr × N) },
@@ -66,14 +66,14 @@ impl<N> Model for Pool<N> {
 impl<N> Pool<N> {
     ghost use Rattle.dom_links.specs.Lends.{lends_item};
 
-    /// Takes no memory.
+    /// Returns an empty pool. It takes no memory.
     pub fn new() -> Pool<N>
         ensures { result.cells ≡ [] }
     {
         Pool { mark: PhantomData }
     }
 
-    /// Moves the node into the room. Its place differs from that of every other node.
+    /// Moves a node into a room. No other node has its address.
     pub fn put(&mut self, room: Room<N>, node: N) -> NodePtr<N>
         requires { 0 < type_size N.row }
         ensures cells { self.new.cells ≡ (result.ptr, node) ∷ self.old.cells }
@@ -97,7 +97,7 @@ impl<N> Pool<N> {
         NodePtr { ptr }
     }
 
-    /// Moves the node out, and hands its block back as room.
+    /// Moves a node out, and returns its block as room.
     pub fn take(&mut self, node: NodePtr<N>, alloc: Global) -> (N, Room<N>)
         requires { IsSome (look node.ptr self.old.cells) }
         ensures node { look node.ptr self.old.cells ≡ Some result.0 }
@@ -117,7 +117,7 @@ impl<N> Pool<N> {
         (value, Vacant { ptr, alloc })
     }
 
-    /// The node at a place in use.
+    /// Borrows the node at an address in use.
     pub fn get(&self, node: NodePtr<N>) -> &N
         requires { IsSome (look node.ptr self.now.cells) }
         ensures { look node.ptr self.now.cells ≡ Some result.now }
@@ -125,7 +125,7 @@ impl<N> Pool<N> {
         unsafe { &*node.ptr }
     }
 
-    /// The same, to be changed. The other nodes stay as they are.
+    /// Borrows the node at an address in use mutably. The other nodes stay unchanged.
     pub fn get_mut(&mut self, node: NodePtr<N>) -> &mut N
         requires { IsSome (look node.ptr self.old.cells) }
         ensures* writes_back { sem 𝓛 (lends_item N.row self.entry node.ptr result) }
@@ -134,7 +134,7 @@ impl<N> Pool<N> {
         unsafe { &mut *node.ptr }
     }
 
-    /// Ends a pool that owns nothing.
+    /// Ends an empty pool.
     pub fn close(self)
         requires { self.cells ≡ [] }
     {

@@ -1,4 +1,4 @@
-//! The steps of the store's calls, each over the table, the free slots or the nodes alone.
+//! The steps of the store's functions. Each changes only the table, the free slots or the nodes.
 ghost use Rattle.std.specs.Prelude.{◌≡◌, ◌≤◌, ◌<◌, ◌^◌, length, Some, None, IsSome, IfSome, IfNone, option_map};
 ghost use Rattle.std.specs.Vec.{vec_capacity};
 ghost use denote.RawPtr.{Ptr};
@@ -10,11 +10,12 @@ use crate::node::Node;
 use crate::place::Link;
 use crate::pool::{NodePtr, Pool};
 
-/// One less than the numbers of a `u32`, so that the count of children fits in one too.
+/// The most slots: 2 ^ 32 - 1, so that the number of children fits in a `u32` too.
 const MOST_SLOTS: usize = 0xffff_ffff;
 
-/// The slot that the next node gets. It takes all the memory that the table and the free slots need for it.
-/// There is none without that memory, or where no slot is free and there are as many as may be.
+/// Returns the slot of the next node, and reserves all memory that the table and the free slots need for it.
+///
+/// Returns none if it is out of memory, or if no slot is free and there are as many as allowed.
 pub(crate) fn free_slot(table: &mut Vec<Link>, free: &mut Vec<u32>) -> Option<u32>
     requires room { length table.old.items ≤ vec_capacity free.old }
     requires few { length table.old.items < 2 ^ 32 }
@@ -45,7 +46,7 @@ pub(crate) fn link_at(table: &Vec<Link>, index: usize) -> Link
     table[index]
 }
 
-/// The node after which a new child comes: the one before `next`, or else the last.
+/// Returns the link to the node before a new child: the one before `next`, or the last child.
 pub(crate) fn link_before<T>(pool: &Pool<Node<T>>, top: *mut Node<T>, next: Link) -> Link
     requires { IsSome (look (link_or next top) pool.now.cells) }
     ensures { IfSome (look (link_or next top) pool.now.cells) (λ n. result ≡ link_ahead next n) }
@@ -56,7 +57,7 @@ pub(crate) fn link_before<T>(pool: &Pool<Node<T>>, top: *mut Node<T>, next: Link
     }
 }
 
-/// What comes after `prev` under `top` becomes `next`.
+/// Links `prev` forward to `next`, or the parent `top` if there is no `prev`.
 pub(crate) fn lead_on<T>(pool: &mut Pool<Node<T>>, top: *mut Node<T>, prev: Link, next: Link)
     requires { IsSome (look (link_or prev top) pool.old.cells) }
     ensures nodes { (q : Ptr) → look q pool.new.cells
@@ -69,7 +70,7 @@ pub(crate) fn lead_on<T>(pool: &mut Pool<Node<T>>, top: *mut Node<T>, prev: Link
     }
 }
 
-/// What comes before `next` under `top` becomes `prev`.
+/// Links `next` back to `prev`, or the parent `top` if there is no `next`.
 pub(crate) fn lead_back<T>(pool: &mut Pool<Node<T>>, top: *mut Node<T>, next: Link, prev: Link)
     requires { IsSome (look (link_or next top) pool.old.cells) }
     ensures nodes { (q : Ptr) → look q pool.new.cells
@@ -91,7 +92,7 @@ pub(crate) fn recount<T>(pool: &mut Pool<Node<T>>, ptr: *mut Node<T>, count: u32
     pool.get_mut(NodePtr { ptr }).count = count;
 }
 
-/// Writes the links that a node has as a child.
+/// Writes a node's links to its parent and siblings.
 pub(crate) fn write_links<T>(
     pool: &mut Pool<Node<T>>,
     ptr: *mut Node<T>,

@@ -10,12 +10,12 @@ use crate::steps::{free_slot, lead_back, lead_on, link_at, link_before, recount,
 use std::alloc::Global;
 use std::marker::Model;
 
-/// A store of linked nodes, each in a slot of its own, that is asked by places. It has at most 4,294,967,295 slots.
+/// A store of linked nodes, each in a slot of its own, with places as handles. It has at most 4,294,967,295 slots.
 ///
-/// A node's place leads to it in one access. It stands for the node's slot as long as that is held, wherever the node is linked;
-/// once the slot is taken, the place may become that of another.
+/// A place leads to its node in one access. It stands for the node's slot as long as that is held, wherever the node is linked. Once the slot is
+/// taken, another node may get the place.
 ///
-/// Dropping the store drops every value and frees every node.
+/// If the store is dropped, it drops each value and frees each node.
 pub struct Store<T> {
     table: Vec<Link>,
     free: Vec<u32>,
@@ -43,7 +43,7 @@ impl<T> Store<T> {
     ghost use Rattle.dom_links.specs.Placed.{slot_of, slots_of, entry_behind, parent_at, children_at, next_at, previous_at, HasParent, HasNoParent, IsChildOf, IsUnder, linked_at, unlinked_at, IsPlaced, KeepsPlaces, KeepsPlacesBut};
     ghost use Rattle.dom_links.specs.Lends.{lends_placed};
 
-    /// A store with no slot. It takes no memory.
+    /// Returns a store without slots. It takes no memory.
     pub fn new(alloc: Global) -> Store<T>
         ensures { result.arena ≡ no_slots }
     {
@@ -55,8 +55,9 @@ impl<T> Store<T> {
         }
     }
 
-    /// Puts the value into a slot of its own, linked to nothing.
-    /// It fails only where there is no memory, or where all 4,294,967,295 slots are held.
+    /// Stores a value in a slot of its own, without links.
+    ///
+    /// Fails if it is out of memory, or if all 4,294,967,295 slots are held.
     pub fn add(&mut self, value: T) -> Result<Slot, Refused<T>>
         ensures slot { IfOk result (λ slot. slot ≡ next_slot self.old.arena) }
         ensures fresh { IfOk result (λ slot. entry_at self.old.arena slot ≡ None) }
@@ -85,7 +86,7 @@ impl<T> Store<T> {
         index < self.table.len() && link_at(&self.table, index).get().is_some()
     }
 
-    /// Where the node of a slot lies.
+    /// Returns the place of a slot's node.
     pub fn place(&self, slot: Slot) -> Place
         requires { IsHeld self.now.arena slot }
         ensures slot { slot_of self.now result ≡ slot }
@@ -94,7 +95,7 @@ impl<T> Store<T> {
         link_at(&self.table, slot.number()).get().unwrap()
     }
 
-    /// The place of a slot, or none for none.
+    /// Returns the place of a slot; none for none.
     pub fn link_for(&self, slot: Option<Slot>) -> Link
         requires { ForSome slot (λ n. IsHeld self.now.arena n) }
         ensures slot { slots_of self.now result ≡ slot }
@@ -106,7 +107,7 @@ impl<T> Store<T> {
         }
     }
 
-    /// The slot that a place stands for.
+    /// Returns the slot of a place.
     pub fn slot(&self, place: Place) -> Slot
         requires { IsPlaced self.now place }
         ensures { result ≡ slot_of self.now place }
@@ -114,7 +115,7 @@ impl<T> Store<T> {
         Slot::at(self.pool.get(place.node()).slot as usize)
     }
 
-    /// The slot of where a link leads, if anywhere.
+    /// Returns the slot of the place that a link leads to, if any.
     pub fn slot_for(&self, link: Link) -> Option<Slot>
         requires { ForSome link (λ p. IsPlaced self.now p) }
         ensures { result ≡ slots_of self.now link }
@@ -133,7 +134,7 @@ impl<T> Store<T> {
         self.pool.get(place.node()).parent
     }
 
-    /// The first child.
+    /// Returns the first child.
     pub fn first(&self, place: Place) -> Link
         requires { IsPlaced self.now place }
         ensures slot { slots_of self.now result ≡ head_of (children_at self.now place) }
@@ -142,7 +143,7 @@ impl<T> Store<T> {
         self.pool.get(place.node()).first
     }
 
-    /// The last child.
+    /// Returns the last child.
     pub fn last(&self, place: Place) -> Link
         requires { IsPlaced self.now place }
         ensures slot { slots_of self.now result ≡ last_of (children_at self.now place) }
@@ -151,7 +152,7 @@ impl<T> Store<T> {
         self.pool.get(place.node()).last
     }
 
-    /// The next sibling.
+    /// Returns the next sibling.
     pub fn next(&self, place: Place) -> Link
         requires { IsPlaced self.now place }
         ensures slot { slots_of self.now result ≡ next_at self.now place }
@@ -160,7 +161,7 @@ impl<T> Store<T> {
         self.pool.get(place.node()).next
     }
 
-    /// The previous sibling.
+    /// Returns the previous sibling.
     pub fn prev(&self, place: Place) -> Link
         requires { IsPlaced self.now place }
         ensures slot { slots_of self.now result ≡ previous_at self.now place }
@@ -169,7 +170,7 @@ impl<T> Store<T> {
         self.pool.get(place.node()).prev
     }
 
-    /// How many children there are. It takes no walk.
+    /// Returns the number of children, in constant time.
     pub fn count(&self, place: Place) -> u32
         requires { IsPlaced self.now place }
         ensures { result ≡ length (children_at self.now place) }
@@ -193,7 +194,7 @@ impl<T> Store<T> {
         &mut node.value
     }
 
-    /// Makes the child one of the parent's, just before `before`, or the last.
+    /// Inserts a node into a parent's children before `before`, or as the last.
     pub fn link(&mut self, parent: Place, child: Place, before: Link)
         requires parent_placed { IsPlaced self.old parent }
         requires child_placed { IsPlaced self.old child }
@@ -221,7 +222,7 @@ impl<T> Store<T> {
         );
     }
 
-    /// Takes the child out of its parent's children. Its own children stay with it.
+    /// Removes a node from its parent's children. Its own children stay linked to it.
     pub fn unlink(&mut self, child: Place)
         requires placed { IsPlaced self.old child }
         requires has_parent { HasParent self.old child }
@@ -242,7 +243,7 @@ impl<T> Store<T> {
         write_links(&mut self.pool, ptr, none, none, none);
     }
 
-    /// Empties the slot, which the next `add` fills. It takes no memory.
+    /// Empties a slot, and returns its value. The next `add` fills the slot. It takes no memory.
     pub fn take(&mut self, slot: Slot) -> T
         requires no_parent { parent_in (entry_at self.old.arena slot) ≡ None }
         requires no_child { children_in (entry_at self.old.arena slot) ≡ [] }
@@ -260,7 +261,7 @@ impl<T> Store<T> {
         value_of(node)
     }
 
-    /// A law: what a closed store keeps.
+    /// States a law, and does nothing: its contract holds for any store.
     pub fn sound(&self)
         ensures { IsSound self.now.arena }
     {

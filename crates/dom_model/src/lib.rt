@@ -1,5 +1,6 @@
-//! The definitions of the document core, on plain nested lists, and the plain kinds and errors that they name.
-//! Nothing here runs: the crates above meet these definitions.
+//! The definitions of the document core on plain nested lists, and the plain kinds and errors that they name.
+//!
+//! Nothing here runs. The contracts of the crates above use these definitions.
 #![tactic(auto)]
 
 /// The seven kinds of node (DOM Standard, "Interface Node").
@@ -14,7 +15,7 @@ pub enum Kind {
     DocumentFragment,
 }
 
-/// The exceptions of the standard that a command may meet (Web IDL, "DOMException"), and `TypeError`.
+/// The exceptions of the standard that a command can return (Web IDL, "DOMException"), and `TypeError`.
 #[derive(Clone, Copy, Debug, PartialEq, Eq)]
 pub enum DomError {
     IndexSizeError,
@@ -28,7 +29,7 @@ pub enum DomError {
     TypeError,
 }
 
-/// The refusals of this profile, which the standard does not have.
+/// The errors of this profile. The standard does not have them.
 #[derive(Clone, Copy, Debug, PartialEq, Eq)]
 pub enum OwnError {
     LineTooLong,
@@ -40,7 +41,7 @@ pub enum OwnError {
     InUse,
 }
 
-/// What a mutation record tells of (DOM Standard, "Interface MutationRecord").
+/// The type of a mutation record (DOM Standard, "Interface MutationRecord").
 #[derive(Clone, Copy, Debug, PartialEq, Eq)]
 pub enum RecordType {
     ChildList,
@@ -48,7 +49,7 @@ pub enum RecordType {
     CharacterData,
 }
 
-/// What a filter says of a node (DOM Standard, "Interface NodeFilter").
+/// The result of a node filter (DOM Standard, "Interface NodeFilter").
 #[derive(Clone, Copy, Debug, PartialEq, Eq)]
 pub enum Verdict {
     Accept,

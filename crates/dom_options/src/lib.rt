@@ -1,4 +1,4 @@
-//! The program's command line: which limits words ask for, by clap's own definition, and what is told of words that ask for none.
+//! The program's command line: the limits that its words set, by clap's own definition, and the text for words that set none.
 #![tactic(auto)]
 
 mod options;

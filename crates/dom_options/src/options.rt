@@ -9,23 +9,23 @@ use clap::{Arg, ArgAction, ArgMatches, Command, Error};
 use std::alloc::{AllocError, Global};
 use std::convert::AsStr;
 
-/// How many bytes a line may have where the words do not say.
+/// The limit of bytes in a line, if the words set none.
 const LINE: u64 = 1048576;
 
-/// How many bytes a line may have at most.
+/// The greatest limit of bytes in a line.
 const LONGEST_LINE: u64 = 1073741824;
 
-/// How many numbers there are of each kind of object, at most, and where the words do not say.
+/// The greatest limit of numbers of each kind of object, and the limit if the words set none.
 const NUMBERS: u64 = 4294967295;
 
-/// The limits that words ask for: how many numbers there are of each kind of object, and how many bytes a line may have.
+/// The limits that words set: how many numbers of each kind of object there are, and how many bytes a line may have.
 #[derive(Drop)]
 pub struct Asked {
     pub numbers: u64,
     pub line: u64,
 }
 
-/// Why the words give no limits, with clap's text.
+/// The reason why words set no limits, with clap's text.
 #[derive(Drop)]
 pub enum Refusal {
     Memory,
@@ -33,10 +33,10 @@ pub enum Refusal {
     Mistake(String),
 }
 
-/// The version that `--version` tells, and the identity of the kit that proves the program.
+/// The text of `--version`: the version, and the identity of the kit that proves the program.
 const VERSION: &str = "0.1.0 (rattle-kit-13f logic dac8208d650f15bf)";
 
-/// What help says below the options: statuses, and an example.
+/// The text of help below the options: statuses, and an example.
 const AFTER: &str = "\
 Exit status: 0 at the end of the input, 1 out of memory, 2 for a mistake in the options,
 3 for a failed read or write, 141 if nobody reads the output any longer.
@@ -48,7 +48,7 @@ Example:
 
 domserve(1) and its pages have the commands; domserve-explain --commands lists them.";
 
-/// The program with no options, and what it says of itself.
+/// Returns the program's command without options, with the texts of its help.
 fn program<'a>(alloc: Global) -> Command<'a>
     ensures { app_of result ≡ with_version (new_app (codes "domserve")) }
 {
@@ -80,7 +80,7 @@ fn command<'a>(alloc: Global) -> Result<Command<'a>, AllocError>
     program(alloc).arg(line)?.arg(numbers)
 }
 
-/// The value where it is in the range, which clap has tested, or else the other one.
+/// Returns a value in the range, or the other one. Clap has tested the range.
 fn within(value: Option<u64>, most: u64, otherwise: u64) -> u64
     requires least { 1 ≤ otherwise }
     requires most { otherwise ≤ most }
@@ -103,22 +103,20 @@ fn asked_of(matches: &ArgMatches<'_>) -> Asked
     Asked { numbers, line }
 }
 
-/// Returns the value that clap's text refuses, if it is one of the option in the words behind it.
-fn refused_value<'t>(text: &'t str, behind: &str) -> Option<&'t str> {
-    let (front, _) = text.rsplit_once(behind)?;
-    front.strip_prefix("error: invalid value '")
-}
-
-/// Returns the option that clap's text is about, its greatest value and the refused one, if it is about a limit.
+/// Returns the option of clap's text, its greatest value and the refused value, if the text is about a limit.
+///
+/// The value can hold any text, the names of options too, so the option is read from the end of clap's text.
 fn refused_limit(text: &str) -> Option<(&str, u64, &str)> {
-    if let Some(value) = refused_value(text, "' for '--line <BYTES>': ") {
+    let (said, _) = text.rsplit_once("': ")?;
+    let said = said.strip_prefix("error: invalid value '")?;
+    if let Some(value) = said.strip_suffix("' for '--line <BYTES>") {
         return Some(("--line", LONGEST_LINE, value));
     }
-    let value = refused_value(text, "' for '--numbers <N>': ")?;
+    let value = said.strip_suffix("' for '--numbers <N>")?;
     Some(("--numbers", NUMBERS, value))
 }
 
-/// Returns the text of an error. Of a refused limit clap tells the range as Rust writes it, so this has words of its own.
+/// Returns the text of an error. For a refused limit, clap's text has the range as Rust writes it, so this returns a plainer text.
 fn plain_text(alloc: Global, error: &Error) -> Result<String, AllocError> {
     let text = error.to_string(alloc)?;
     match refused_limit(text.as_str()) {
@@ -147,12 +145,12 @@ fn refusal_of(alloc: Global, error: &Error) -> Refusal
     }
 }
 
-/// The limits that the words ask for, the program's name first.
+/// Returns the limits that the words set. The first word is the program's name.
 pub fn asked_from<S: AsStr>(alloc: Global, words: &[S]) -> Result<Asked, Refusal>
     ensures range { IfOk result (λ asked. IsInRange (bounds_in asked)) }
     ensures asked { IfOk result (λ asked. bounds_in asked ≡ bounds_asked (map S.text words.now)) }
 
-    // Limits are given only for words in which clap finds no fault; help and mistakes come of faults.
+    // Limits are returned only if clap finds no fault in the words; help and mistakes are faults.
     ensures taken { IfOk result (λ _. faults_in (map S.text words.now) ≡ []) }
     ensures told { IfErr result (TellsOf (faults_in (map S.text words.now))) }
 {

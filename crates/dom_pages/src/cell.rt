@@ -1,29 +1,29 @@
-//! What a page keeps for each of its numbers.
+//! The cells of a page.
 
 ghost use Rattle.std.specs.Prelude.{◌≡◌, Option, Some, None};
 
-/// A cell of a table: an item, or nothing, in as little room as the cell's own form takes.
+/// A cell of a table: an item, or nothing.
 ///
-/// The language has no niches: an `Option` takes room for its tag beside the item. A cell that has a form of its own for nothing, as a pointer
-/// has null, takes the room of the item alone.
+/// The language has no niches: an `Option` takes space for its tag besides the item. A cell with its own form for nothing, as a pointer has null,
+/// takes only the space of the item.
 pub trait Cell<T>: Copy {
-    // what stands in a cell
+    // the item in a cell
     ghost held: { Self → Option T };
 
-    /// A cell in which nothing stands.
+    /// Returns a cell without an item.
     fn vacant() -> Self
         ensures { held result ≡ None };
 
-    /// A cell in which the item stands.
+    /// Returns a cell with an item.
     fn of(item: T) -> Self
         ensures { held result ≡ Some item };
 
-    /// What stands in the cell.
+    /// Returns the item in the cell, if any.
     fn item(self) -> Option<T>
         ensures { result ≡ held self };
 }
 
-/// The cell of an item for which there is no better one.
+/// The cell of an item without a smaller one.
 impl<T: Copy> Cell<T> for Option<T> {
     ghost held = { λ o. o };
 

@@ -1,7 +1,6 @@
-//! Tables from numbers to what they stand for, where numbers are given out in order and none is used again.
+//! Paged tables of items by number. Numbers are given in order, and none is reused.
 //!
-//! A table lies in pages. A page whose numbers are all taken back gives its memory back, so a table takes memory for what is in it, and
-//! very little for the numbers that went.
+//! A page whose numbers were all given and cleared frees its memory. So a table takes memory for its items, and very little for cleared numbers.
 #![tactic(auto)]
 
 mod cell;

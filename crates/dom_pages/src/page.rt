@@ -1,4 +1,4 @@
-//! A page of a table: a cell for each of its numbers, or no memory at all.
+//! A page of a table: a cell for each of its numbers, or no memory.
 
 ghost use Rattle.std.specs.Prelude.{◌≡◌, ◌<◌, [], length, Some, None, IfOk, IsTrue, false, slice_index_or, slice_set};
 ghost use Rattle.dom_pages.specs.Paged.{page_size, AllVacant};
@@ -7,14 +7,14 @@ use crate::cell::Cell;
 use std::alloc::{AllocError, Global};
 use std::marker::{Model, PhantomData};
 
-/// How many numbers a page is for.
+/// The number of cells of a page.
 pub(crate) const PAGE: usize = 1024;
 
-/// The cells of a page, none where it gave its memory back.
+/// The cells of a page; none if it freed its memory.
 #[derive(Drop)]
 pub(crate) struct Page<T, C: Cell<T>> {
     cells: Vec<C>,
-    // In how many of the cells something stands.
+    // The number of cells with an item.
     count: usize,
     of: PhantomData<T>,
 }
@@ -34,7 +34,7 @@ impl<T, C: Cell<T>> Model for Page<T, C> {
 }
 
 impl<T: Copy, C: Cell<T>> Page<T, C> {
-    /// A page with nothing in its cells.
+    /// Returns a page of vacant cells.
     pub(crate) fn blank(alloc: Global) -> Result<Page<T, C>, AllocError>
         ensures cells { IfOk result (λ p. length p ≡ page_size) }
         ensures vacant { IfOk result (λ p. AllVacant p) }
@@ -50,7 +50,7 @@ impl<T: Copy, C: Cell<T>> Page<T, C> {
         })
     }
 
-    /// What stands in a cell; none past the cells.
+    /// Returns the item in a cell; none past the cells.
     pub(crate) fn get(&self, cell: usize) -> Option<T>
         ensures { result ≡ slice_index_or self.now cell None }
     {
@@ -60,7 +60,7 @@ impl<T: Copy, C: Cell<T>> Page<T, C> {
         }
     }
 
-    /// Writes a cell.
+    /// Writes an item into a cell.
     pub(crate) fn put(&mut self, cell: usize, item: T)
         requires { cell < length self.old }
         ensures { self.new ≡ slice_set self.old cell (Some item) }
@@ -71,7 +71,7 @@ impl<T: Copy, C: Cell<T>> Page<T, C> {
         self.cells[cell] = C::of(item);
     }
 
-    /// Empties a cell, where there is one.
+    /// Clears a cell, if there is one.
     pub(crate) fn clear(&mut self, cell: usize)
         ensures { self.new ≡ slice_set self.old cell None }
     {
@@ -81,7 +81,7 @@ impl<T: Copy, C: Cell<T>> Page<T, C> {
         }
     }
 
-    /// Whether nothing stands in any cell.
+    /// Returns whether all cells are vacant.
     pub(crate) fn is_vacant(&self) -> bool
         ensures vacant { IsTrue result → AllVacant self.now }
         ensures sure { AllVacant self.now → IsTrue result }
@@ -89,7 +89,7 @@ impl<T: Copy, C: Cell<T>> Page<T, C> {
         self.count == 0
     }
 
-    /// Gives the memory back, with whatever stands in the cells.
+    /// Frees the memory of the page, with all items in its cells.
     pub(crate) fn give_back(&mut self)
         ensures { self.new ≡ [] }
     {
@@ -98,7 +98,7 @@ impl<T: Copy, C: Cell<T>> Page<T, C> {
         self.count = 0;
     }
 
-    /// Whether the page has its memory: it has where it has a cell.
+    /// Returns whether the page has its memory. A page with cells has it.
     pub(crate) fn is_present(&self) -> bool
         ensures present { 0 < length self.now → IsTrue result }
         ensures gone { self.now ≡ [] → result ≡ false }

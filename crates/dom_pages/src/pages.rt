@@ -9,7 +9,7 @@ use crate::page::{PAGE, Page};
 use std::alloc::{AllocError, Global};
 use std::marker::Model;
 
-/// What stands under each number that was given out, each in a cell: an `Option`, unless a smaller one is named.
+/// A table of items by number, each in a cell. The cell is an `Option`, unless a smaller one is given.
 #[derive(Drop)]
 pub struct Pages<T, C: Cell<T> = Option<T>> {
     pages: Vec<Page<T, C>>,
@@ -31,7 +31,7 @@ impl<T, C: Cell<T>> Model for Pages<T, C> {
 }
 
 impl<T: Copy, C: Cell<T>> Pages<T, C> {
-    /// A table with no number, and room for none.
+    /// Returns a table without numbers. It takes no memory.
     pub fn new(alloc: Global) -> Pages<T, C>
         ensures { result ≡ record { items = []; room = 0 } }
     {
@@ -41,14 +41,14 @@ impl<T: Copy, C: Cell<T>> Pages<T, C> {
         }
     }
 
-    /// How many numbers were given out.
+    /// Returns how many numbers were ever given.
     pub fn len(&self) -> usize
         ensures { result ≡ length self.now.items }
     {
         self.len
     }
 
-    /// What stands under a number; none where the number was taken back, or was never given out.
+    /// Returns the item of a number; none if the number was cleared, or never given.
     pub fn get(&self, number: usize) -> Option<T>
         ensures { result ≡ item_at self.now.items number }
     {
@@ -58,14 +58,14 @@ impl<T: Copy, C: Cell<T>> Pages<T, C> {
         }
     }
 
-    // How many more numbers have room.
+    // Returns for how many more numbers there is room.
     fn room(&self) -> usize
         ensures { result ≡ self.now.room }
     {
         self.pages.len() * PAGE - self.len
     }
 
-    // Adds a page behind the others.
+    // Appends a page.
     fn add_page(&mut self) -> Result<(), AllocError>
         requires { length self.old.items + self.old.room < 4294967296 }
         ensures room { OnOk result (self.new.room ≡ self.old.room + page_size) }
@@ -78,7 +78,7 @@ impl<T: Copy, C: Cell<T>> Pages<T, C> {
         Ok(())
     }
 
-    /// Makes room for so many more numbers, as long as 32 bits can tell them all apart. Room that was there stays, also where more is refused.
+    /// Reserves room for more numbers. All of them must fit in 32 bits. On an error the old room stays.
     pub fn reserve(&mut self, additional: usize) -> Result<(), AllocError>
         requires { length self.old.items + additional ≤ 4294967296 }
         ensures room { OnOk result (additional ≤ self.new.room) }
@@ -91,7 +91,7 @@ impl<T: Copy, C: Cell<T>> Pages<T, C> {
         Ok(())
     }
 
-    /// Gives out the next number, for which there is room. It takes no memory.
+    /// Adds an item with the next number, within reserved room. It takes no memory.
     pub fn push_reserved(&mut self, item: T)
         requires { 0 < self.old.room }
         ensures items { self.new.items ≡ self.old.items ++ Some item ∷ [] }
@@ -102,7 +102,7 @@ impl<T: Copy, C: Cell<T>> Pages<T, C> {
         self.len += 1;
     }
 
-    /// Puts something else under a number that was not taken back. It takes no memory.
+    /// Replaces the item of a number that was not cleared. It takes no memory.
     pub fn set(&mut self, number: usize, item: T)
         requires { IsSome (item_at self.old.items number) }
         ensures items { self.new.items ≡ slice_set self.old.items number (Some item) }
@@ -112,7 +112,7 @@ impl<T: Copy, C: Cell<T>> Pages<T, C> {
         page.put(number % PAGE, item);
     }
 
-    /// Takes a number back: nothing stands under it from then on. It takes no memory.
+    /// Clears a number: it has no item from then on. It takes no memory, and frees the page of the number if all its numbers were given and cleared.
     pub fn clear(&mut self, number: usize)
         requires { number < length self.old.items }
         ensures items { self.new.items ≡ slice_set self.old.items number None }
@@ -120,14 +120,14 @@ impl<T: Copy, C: Cell<T>> Pages<T, C> {
     {
         let page = &mut self.pages[number / PAGE];
         page.clear(number % PAGE);
-        // The page of the next number keeps its memory, and so do those behind it: they are the room.
+        // The page of the next number and the pages after it keep their memory, because they are the reserved room.
         if number / PAGE < self.len / PAGE && page.is_vacant() {
             page.give_back();
         }
     }
 
-    /// Whether the page of a number has its memory: it has where something stands under the number, and it has none where all numbers of the
-    /// page were given out and taken back.
+    /// Returns whether the page of a number has its memory. It does if the number has an item, and does not if all numbers of the page were given and
+    /// cleared.
     pub fn is_present(&self, number: usize) -> bool
         ensures present { IsSome (item_at self.now.items number) → IsTrue result }
         ensures gone { IsTakenBack self.now.items (number / page_size) → result ≡ false }

@@ -1,4 +1,4 @@
-//! Serving: read, answer what became due, read again.
+//! The serving loop: read, reply to all complete lines, read again.
 
 ghost use Rattle.std.specs.Prelude.{◌≡◌, ℕ, ◌+◌, ◌<◌, ◌≤◌, ◌^◌, true, false, List, [], length, take, IfOk, OnOk, OnErr, IfSome, ◌⊎◌};
 ghost use Rattle.std.specs.Io.KnownBytes.{Appends, IsAtEnd, ReadConsumes};
@@ -19,10 +19,10 @@ use crate::writing::write_out_of_memory;
 use dom_wire::Limits;
 use std::alloc::{AllocError, Global};
 
-/// How many bytes are read at once, at most.
+/// The most bytes of one read.
 const READ_SIZE: usize = 65536;
 
-/// How many reads `serve` makes, at most.
+/// The most reads of `serve`.
 const MOST_READS: u64 = 1099511627776;
 
 fn read_buffer(alloc: Global) -> Result<Vec<u8>, AllocError>
@@ -31,7 +31,7 @@ fn read_buffer(alloc: Global) -> Result<Vec<u8>, AllocError>
     vec![in alloc; 0u8; READ_SIZE]
 }
 
-/// Answers the last line, and counts all of them.
+/// Replies to the last line, and returns the number of lines.
 fn conclude<W: Sink>(server: &mut Server, writer: &mut W) -> Result<Summary, Fault>
     requires room { server.old.lines + 1 < 2 ^ 64 }
     ensures concludes { (b : Bounds) (bytes : List ℕ) → Stands b bytes server.old →
@@ -49,7 +49,7 @@ fn conclude<W: Sink>(server: &mut Server, writer: &mut W) -> Result<Summary, Fau
     }
 }
 
-/// A read, which is made only where no line was answered yet, or all that was written has been passed on.
+/// Makes one read. Requires that no line was replied to yet, or that all written bytes were flushed.
 fn read_piece<R: Source, W: Sink>(
     _server: &Server,
     _writer: &W,
@@ -66,7 +66,7 @@ fn read_piece<R: Source, W: Sink>(
     reader.read(buffer)
 }
 
-/// Reads and answers, until the input ends or something fails.
+/// Reads and replies, until the input ends or something fails.
 fn serve_all<R: Source, W: Sink>(
     turns: u64,
     server: &mut Server,
@@ -111,10 +111,13 @@ fn start(alloc: Global, limits: Limits) -> Result<(Server, Vec<u8>), AllocError>
     Ok((server, buffer))
 }
 
-/// Answers each line of the reader, in at most so many reads of at most 65,536 bytes. A line is answered, and the reply
-/// passed on, before the next read; a last piece with no newline is a line, answered at the end of the input. A line with
-/// more bytes than the limit is skipped, and answered at its newline or at the end. For want of memory the last thing
-/// written is the out-of-memory line. No failed read, write or flush is tried again.
+/// Replies to each line of the reader, in at most `turns` reads of at most 65,536 bytes.
+///
+/// - A reply is written and flushed before the next read.
+/// - A last piece without a newline is a line, with a reply at the end of the input.
+/// - A line with more bytes than the limit is skipped; its reply is written at its newline, or at the end.
+/// - If it is out of memory, the last line written is the out-of-memory line.
+/// - A failed read, write or flush is not repeated.
 pub fn serve_within<R: Source, W: Sink>(
     alloc: Global,
     limits: Limits,
@@ -137,7 +140,7 @@ pub fn serve_within<R: Source, W: Sink>(
     }
 }
 
-/// Answers each line of the reader, in at most 2^40 reads; otherwise as `serve_within`.
+/// Replies to each line of the reader as `serve_within` does, in at most 2^40 reads.
 pub fn serve<R: Source, W: Sink>(
     alloc: Global,
     limits: Limits,
@@ -147,7 +150,7 @@ pub fn serve<R: Source, W: Sink>(
     requires numbers { (1 ≤ limits.numbers) × (limits.numbers ≤ 4294967295) }
     requires line { 1 ≤ limits.line }
 
-    // Whatever the sizes of the reads, what is written is the output for all bytes of the reader.
+    // For any sizes of the reads, the written bytes are the output for all bytes of the reader.
     ensures output { OnOk result (IfSome (R.reading.left reader.old) (λ input.
         Appends (W.writing.taken writer.old) (W.writing.taken writer.new)
         (output_of whole_table (bounds_of limits) input))) }

@@ -1,8 +1,8 @@
-//! How serving ends.
+//! The outcomes of serving.
 
 use thiserror::Error;
 
-/// Why serving stopped before the input was answered whole.
+/// The reason why serving stopped before the end of the input.
 #[derive(Clone, Copy, Debug, PartialEq, Eq, Error)]
 pub enum Fault {
     /// A read failed.
@@ -11,7 +11,7 @@ pub enum Fault {
     /// A write or a flush failed.
     #[error("write failed")]
     Write,
-    /// Memory was wanting.
+    /// The server is out of memory.
     #[error("out of memory")]
     Memory,
     /// The input did not end within the number of reads.
@@ -19,9 +19,9 @@ pub enum Fault {
     InputTooLong,
 }
 
-/// What was served.
+/// The outcome of serving the whole input.
 #[derive(Clone, Copy, Debug, PartialEq, Eq)]
 pub struct Summary {
-    /// How many lines were answered.
+    /// The number of lines with a reply.
     pub lines: u64,
 }

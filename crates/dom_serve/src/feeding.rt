@@ -1,4 +1,4 @@
-//! Taking bytes, and answering each line at its newline.
+//! Feeding bytes to a server, which replies to each line at its newline.
 
 ghost use Rattle.std.specs.Prelude.{◌≡◌, ℕ, ◌+◌, ◌<◌, ◌≤◌, ◌^◌, true, false, List, ◌++◌, ◌∷◌, [], length, IfOk, MatchOption};
 ghost use Rattle.dom_model.specs.Commands.Answer.{Bounds};
@@ -17,7 +17,7 @@ use dom_wire::{Limits, Session};
 use memchr::memchr;
 use std::alloc::{AllocError, Global};
 
-/// The bytes ahead of the first newline, and those after it.
+/// Returns the bytes before the first newline, and the bytes after it.
 fn split_line(bytes: &[u8]) -> Option<(&[u8], &[u8])>
     ensures { MatchOption result (EndsNoLine bytes.now)
         (λ parts. EndsNoLine parts.0.now × (bytes.now ≡ parts.0.now ++ 10 ∷ parts.1.now)) }
@@ -27,7 +27,7 @@ fn split_line(bytes: &[u8]) -> Option<(&[u8], &[u8])>
 }
 
 impl Server {
-    /// A server that no byte has come to.
+    /// Returns a server that has received no bytes.
     pub fn new(alloc: Global, limits: Limits) -> Result<Server, AllocError>
         requires numbers { (1 ≤ limits.numbers) × (limits.numbers ≤ 4294967295) }
         requires line { 1 ≤ limits.line }
@@ -46,7 +46,7 @@ impl Server {
         })
     }
 
-    /// Answers the line that is held, and holds none.
+    /// Replies to the buffered line, and clears the buffer.
     fn end_line<W: Sink>(&mut self, writer: &mut W) -> Result<(), Fault>
         requires room { self.old.lines + 1 < 2 ^ 64 }
         ensures fed { (b : Bounds) (bytes : List ℕ) → Stands b bytes self.old →
@@ -72,7 +72,7 @@ impl Server {
         Ok(())
     }
 
-    /// Takes bytes among which is no newline. Of a line with more bytes than it may have none are held.
+    /// Buffers bytes without a newline. A line over the limit has no buffered bytes.
     fn keep<W: Sink>(&mut self, part: &[u8], writer: &mut W) -> Result<(), Fault>
         requires part { EndsNoLine part.now }
         ensures fed { (b : Bounds) (bytes : List ℕ) → Stands b bytes self.old →
@@ -98,7 +98,7 @@ impl Server {
         }
     }
 
-    /// Takes what is left of a line, and answers the line.
+    /// Buffers the rest of a line, and replies to the line.
     fn feed_line<W: Sink>(&mut self, rest: &[u8], writer: &mut W) -> Result<(), Fault>
         requires room { self.old.lines + 1 < 2 ^ 64 }
         requires rest { EndsNoLine rest.now }
@@ -115,7 +115,7 @@ impl Server {
         self.end_line(writer)
     }
 
-    /// Takes bytes, and answers each line at its newline.
+    /// Buffers bytes, and replies to each line at its newline.
     pub fn feed_all<W: Sink>(&mut self, piece: &[u8], writer: &mut W) -> Result<(), Fault>
         requires room { self.old.lines + length piece.now < 2 ^ 64 }
         ensures fed { (b : Bounds) (bytes : List ℕ) → Stands b bytes self.old →
@@ -135,7 +135,7 @@ impl Server {
         self.keep(rest, writer)
     }
 
-    /// Answers the last line, where the input did not end with a newline.
+    /// Replies to the last line, if the input did not end with a newline.
     pub fn finish<W: Sink>(&mut self, writer: &mut W) -> Result<(), Fault>
         requires room { self.old.lines + 1 < 2 ^ 64 }
         ensures finishes { (b : Bounds) (bytes : List ℕ) → Stands b bytes self.old →

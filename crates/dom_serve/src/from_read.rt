@@ -1,4 +1,4 @@
-//! A reader made of one of std's.
+//! A `Source` over a reader of std.
 
 ghost use Rattle.std.specs.Prelude.{◌≡◌, IsSome, None};
 
@@ -7,7 +7,7 @@ use crate::one_read::OneRead;
 use crate::streams::{Failed, Source};
 use std::io::{Error, Read};
 
-/// A std reader as a `Source`: a read of one is a read of the other, also after one that failed. It keeps the last error.
+/// A reader of std as a `Source`. Each read is one read of the inner reader, even after one failed. It stores the last error.
 #[derive(Drop)]
 pub struct FromRead<R> {
     inner: R,

@@ -5,9 +5,9 @@ ghost use Rattle.std.specs.declared.io.Error.{Error};
 
 use std::io::Error;
 
-/// A reader or a writer that keeps the error of its last failed call, beside its contract as a `Source` or a `Sink`.
+/// A reader or a writer that stores the error of its last failed call, besides its contract as a `Source` or a `Sink`.
 pub trait LastError {
-    // The error, if a call has failed.
+    // the error, if a call has failed
     ghost error: { Self → Option Error };
 
     /// Returns the error of the last call that failed.

@@ -1,4 +1,4 @@
-//! The server: bytes in, lines, replies, bytes out, over any reader and writer that keep the contracts of `Source` and `Sink`.
+//! The server: bytes to lines, lines to replies, replies to bytes, over any reader and writer with the contracts of `Source` and `Sink`.
 #![tactic(auto)]
 
 mod answering;

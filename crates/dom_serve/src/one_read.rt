@@ -1,23 +1,23 @@
-//! One read of a std reader.
+//! One read of a reader of std.
 
 ghost use Rattle.std.specs.Prelude.{ℕ, ◌≤◌, List, length, take, Option, IfOk, OnErr};
 ghost use Rattle.std.specs.Io.KnownBytes.{ReadConsumes, Consumes, Keeps};
 
 use std::io::{Read, Result};
 
-/// A reader with words of its own for what one read comes to. Each std reader is one.
+/// A reader with its own contract for one read. Each reader of std has one.
 ///
-/// Of a reader whose bytes that are left are not known, as a terminal, std tells nothing of a read. What stands on these words is told of each read
-/// all the same: it hands on what that read gave, and cannot tell such a reader from others.
+/// For a reader whose remaining bytes are unknown, such as a terminal, std states nothing about a read. The contracts that use this trait state it
+/// for each read all the same: they pass on the bytes that the read returned, whichever reader it is.
 pub trait OneRead {
-    // The bytes that reads will give from here on, where they are known.
+    // the bytes of all later reads, if they are known
     ghost left: { Self → Option (List ℕ) };
-    // One read that does not fail may give these bytes and leave the reader so.
+    // a successful read may return these bytes and leave the reader in this state
     ghost gives: { Self → List ℕ → Self → Type 0 };
-    // One read that fails may leave the reader so.
+    // a failed read may leave the reader in this state
     ghost fails: { Self → Self → Type 0 };
 
-    /// Makes one read into the front of the slice, and says how many bytes it gave.
+    /// Makes one read into the front of the slice, and returns how many bytes it read.
     fn read_once(&mut self, buf: &mut [u8]) -> Result<usize>
         ensures count { IfOk result (λ n. n ≤ length buf.new) }
         ensures bytes { ReadConsumes (left self.old) (left self.new) result buf.new }

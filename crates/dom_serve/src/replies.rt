@@ -1,4 +1,4 @@
-//! The reply to a line that is held whole, or of which there were too many bytes.
+//! The reply to a buffered line, or to a line that is too long.
 
 ghost use Rattle.std.specs.Prelude.{◌≡◌, true, false, IfOk};
 ghost use Rattle.dom_model.specs.Worlds.World.{World};
@@ -16,7 +16,7 @@ use crate::writing::{write_line, write_out_of_memory};
 use dom_wire::{Brief, Command, OwnError, ReadError, Reply, Session, read_line, write_reply};
 use std::alloc::{AllocError, Global};
 
-/// The command of a line, or the refusal of its form.
+/// Returns the command of a line, or the refusal of its form.
 fn command(alloc: Global, kept: &[u8], too_long: bool) -> Result<Command, ReadError>
     ensures { Reads result (held_command kept.now too_long) }
 {
@@ -26,7 +26,7 @@ fn command(alloc: Global, kept: &[u8], too_long: bool) -> Result<Command, ReadEr
     read_line(alloc, kept)
 }
 
-/// The reply to a line, for which the session takes its command.
+/// Returns the reply to a line, after the session has run its command.
 fn reply(
     alloc: Global,
     session: &mut Session,
@@ -47,7 +47,7 @@ fn reply(
     }
 }
 
-/// The reply to a line, printed with its newline.
+/// Returns the reply to a line as text, with its newline.
 fn reply_text(
     alloc: Global,
     session: &mut Session,
@@ -65,7 +65,7 @@ fn reply_text(
     }
 }
 
-/// Writes the reply to a line and passes it on; for want of memory says that.
+/// Writes the reply to a line and flushes it. If it is out of memory, it writes the out-of-memory line.
 pub(crate) fn answer<W: Sink>(
     alloc: Global,
     session: &mut Session,

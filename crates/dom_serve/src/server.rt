@@ -1,9 +1,9 @@
-//! What a server holds: a session, and the line that is being read.
+//! The state of a server: a session, and the current line.
 
 use dom_wire::Session;
 use std::alloc::Global;
 
-/// A session, and the bytes of the line that has no newline yet: at most as many as a line may have.
+/// A session, and the buffered bytes of a line without its newline. There are at most as many as the limit of a line.
 #[derive(Drop)]
 pub struct Server {
     pub alloc: Global,

@@ -1,4 +1,4 @@
-//! What the server reads from and writes to.
+//! The server's input and output.
 
 ghost use Rattle.std.specs.Prelude.{◌≡◌, ◌<◌, ◌≤◌, true, length, take, IfOk, OnOk, OnErr};
 ghost use Rattle.std.specs.Io.KnownBytes.{ReadConsumes, WriteAppends, Keeps};
@@ -8,12 +8,12 @@ ghost use Rattle.dom_serve.specs.Streams.{Reading, Writing};
 #[derive(Clone, Copy, Debug, PartialEq, Eq)]
 pub struct Failed;
 
-/// A reader. One that failed may read on later, and need not.
+/// A reader. A failed one may read again later.
 pub trait Source {
-    // What clauses say of it: the bytes that are left, and what a read may give and leave.
+    // its words in clauses: the remaining bytes, and the bytes and the states after a read
     ghost reading: { Reading Self };
 
-    /// Reads some bytes into the front of the slice, and says how many: none into a slice that has room only at the end.
+    /// Reads some bytes into the front of the slice, and returns how many: none only at the end, or if the slice is empty.
     fn read(&mut self, buf: &mut [u8]) -> Result<usize, Failed>
         ensures count { IfOk result (λ n. n ≤ length buf.new) }
         ensures bytes { ReadConsumes
@@ -22,13 +22,12 @@ pub trait Source {
         ensures fails { OnErr result (reading.fails self.old self.new) };
 }
 
-/// A writer. One that failed may work later, and need not.
+/// A writer. A failed one may write again later.
 pub trait Sink {
-    // What clauses say of it: the bytes that it took, whether all of them were passed on, and
-    // what a write or a flush may leave.
+    // its words in clauses: the bytes that it took, whether all of them were flushed, and the states after a write or a flush
     ghost writing: { Writing Self };
 
-    /// Takes bytes from the front of the slice, and says how many: none of an empty slice alone.
+    /// Writes bytes from the front of the slice, and returns how many: none only if the slice is empty.
     fn write(&mut self, buf: &[u8]) -> Result<usize, Failed>
         ensures count { IfOk result (λ n. n ≤ length buf.now) }
         ensures some { IfOk result (λ n. 0 < length buf.now → 0 < n) }
@@ -37,7 +36,7 @@ pub trait Sink {
         ensures works { OnOk result (writing.works self.old self.new) }
         ensures fails { OnErr result (writing.fails self.old self.new) };
 
-    /// Passes on what was taken.
+    /// Flushes the written bytes.
     fn flush(&mut self) -> Result<(), Failed>
         ensures bytes { Keeps (writing.taken self.old) (writing.taken self.new) }
         ensures passed { OnOk result (writing.is_passed_on self.new ≡ true) }

@@ -1,4 +1,4 @@
-//! A writer made of one of std's.
+//! A `Sink` over a writer of std.
 
 ghost use Rattle.std.specs.Prelude.{◌≡◌, ℕ, List, true, IsSome, None};
 ghost use Rattle.std.specs.Io.KnownBytes.{Appends, Keeps};
@@ -7,12 +7,12 @@ use crate::last_error::LastError;
 use crate::streams::{Failed, Sink};
 use std::io::{Error, ErrorKind, Write};
 
-/// A std writer as a `Sink`: a write or a flush of one is that of the other, also after one that failed. A write that takes
-/// no byte of a slice that has some is a failure. It keeps the last error.
+/// A writer of std as a `Sink`. Each write or flush is one of the inner writer, even after one failed. A write that takes no byte of a slice that is
+/// not empty fails. It stores the last error.
 #[derive(Drop)]
 pub struct ToWrite<W> {
     inner: W,
-    // Whether it was flushed after the last write.
+    // whether it was flushed after the last write
     flushed: bool,
     error: Option<Error>,
 }
@@ -30,7 +30,7 @@ impl<W: Write> ToWrite<W> {
         }
     }
 
-    /// The std writer.
+    /// Returns the inner writer.
     pub fn into_inner(self) -> W
         ensures { W.contents result ≡ ⟦<ToWrite<W> as Sink>⟧.writing.taken self }
     {

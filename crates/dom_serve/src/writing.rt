@@ -1,4 +1,4 @@
-//! Writing a line, whole and passed on.
+//! Writing and flushing a whole line.
 
 ghost use Rattle.std.specs.Prelude.{◌≡◌, true, false, OnOk, is_err};
 ghost use Rattle.dom_model.specs.Commands.Printed.{out_of_memory_line};
@@ -11,10 +11,10 @@ ghost use Rattle.dom_serve.specs.Server.{SaysWant};
 use crate::fault::Fault;
 use crate::streams::{Failed, Sink};
 
-/// What is written in place of a reply for want of memory.
+/// The line that is written in place of a reply if the server is out of memory.
 const OUT_OF_MEMORY: &[u8] = b"{\"error\":\"out-of-memory\"}\n";
 
-/// Writes the bytes, by as many writes as that takes.
+/// Writes all bytes, by as many writes as needed.
 fn write_whole<W: Sink>(writer: &mut W, bytes: &[u8]) -> Result<(), Failed>
     ensures written { Writes
         (W.writing.taken writer.old) (W.writing.taken writer.new) bytes.now result }
@@ -30,8 +30,8 @@ fn write_whole<W: Sink>(writer: &mut W, bytes: &[u8]) -> Result<(), Failed>
     Ok(())
 }
 
-/// Writes the bytes, by as many writes as that takes, and flushes. Where that fails, a front of them was written, and
-/// nothing more is asked of the writer.
+/// Writes all bytes, by as many writes as needed, and flushes. If a call fails, the first of the bytes were written, and the writer is not called
+/// again.
 pub fn write_line<W: Sink>(writer: &mut W, bytes: &[u8]) -> Result<(), Failed>
     ensures written { Writes
         (W.writing.taken writer.old) (W.writing.taken writer.new) bytes.now result }
@@ -51,7 +51,7 @@ fn out_of_memory_text() -> &'static [u8]
     OUT_OF_MEMORY
 }
 
-/// Says that memory was wanting, and gives the fault.
+/// Writes the out-of-memory line, and returns the fault.
 pub(crate) fn write_out_of_memory<W: Sink>(writer: &mut W) -> Fault
     ensures written { SaysWant (W.writing.taken writer.old) (W.writing.taken writer.new) result }
     ensures passed { is_write result ≡ false → W.writing.is_passed_on writer.new ≡ true }

@@ -1,8 +1,8 @@
-//! Numbers that are given out in order, can be released and are never used again, and the slots of those that are live, which lie without gaps.
+//! Slot maps. Numbers are given in order, can be released and are never reused. The live ones have slots without gaps.
 //!
-//! `Slotted` keeps an item for each live number, in its slot. `Slots` keeps the numbers and slots alone, for whoever keeps what they stand for
-//! beside them. Either is seen as the list of items by number: `by_slot` of `specs/Slotted.antt`. What that list is after each change is proved
-//! in `proofs/Entries.antt`, and that the entries of live numbers are the items in another order in `proofs/Live.antt`.
+//! `Slotted` stores an item for each live number, in its slot. `Slots` stores only the numbers and slots, for callers that store the items
+//! themselves. The view of either is the list of items by number: `by_slot` of `specs/Slotted.antt`. `proofs/Entries.antt` proves that list after
+//! each change, and `proofs/Live.antt` that the entries of live numbers are the items in another order.
 #![tactic(auto)]
 
 mod slots;

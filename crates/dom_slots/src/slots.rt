@@ -1,4 +1,4 @@
-//! Which number lies in which slot.
+//! The slots of numbers, and the numbers in slots.
 
 ghost use Rattle.std.specs.Prelude.{◌≡◌, ◌+◌, ◌/◌, ◌^◌, ◌<◌, ◌≤◌, ◌∷◌, ◌++◌, [], length, Some, IsSome, is_some, IsTrue, false, OnOk, count_by, slice_get, swap_remove};
 ghost use Rattle.dom_pages.specs.Paged.{page_size, IsTakenBack};
@@ -8,12 +8,14 @@ use dom_pages::Pages;
 use std::alloc::{AllocError, Global};
 use std::marker::Model;
 
-/// The numbers that were given out, each with a slot for as long as it is live, and for each slot the number that lies there.
+/// Numbers, each with a slot as long as it is live, and the number in each slot.
 ///
-/// There are as many slots as live numbers. Where one is released the last comes into its slot, as an item does by `Vec::swap_remove`: so
-/// whoever pushes an item with each number, and removes it so from its slot with each release, has in a `Vec` the items of the live numbers
-/// and no others. The pages of the slots give their memory back where no number is live. The list of numbers keeps its room for the most that
-/// were live at once, since to lessen it would ask for memory.
+/// There are as many slots as live numbers. If a number is released, the one in the last slot moves into its slot, as `Vec::swap_remove` moves an
+/// item. So a caller can store the items of the live numbers in a `Vec`: it pushes an item with each number, and removes an item by
+/// `Vec::swap_remove` at the slot of each released number.
+///
+/// A page of slots is freed if all its numbers were given and released. The list of numbers keeps the capacity for the most that were live at once,
+/// because shrinking it would take memory.
 #[derive(Drop)]
 pub struct Slots {
     slots: Pages<u32>,
@@ -36,7 +38,7 @@ impl Model for Slots {
 }
 
 impl Slots {
-    /// No number, and room for none.
+    /// Returns a table without numbers. It takes no memory.
     pub fn new(alloc: Global) -> Slots
         ensures { result ≡ record { slots = []; numbers = []; room = 0 } }
     {
@@ -46,21 +48,21 @@ impl Slots {
         }
     }
 
-    /// How many numbers were ever given out.
+    /// Returns how many numbers were ever given.
     pub fn made(&self) -> u64
         ensures { result ≡ length self.now.slots }
     {
         self.slots.len() as u64
     }
 
-    /// How many numbers are live: there is one slot to each.
+    /// Returns the number of live numbers, which is that of slots.
     pub fn count(&self) -> usize
         ensures { result ≡ length self.now.numbers }
     {
         self.numbers.len()
     }
 
-    /// The slot of a number; none where the number was released, or was never given out.
+    /// Returns the slot of a number; none if the number was released, or never given.
     pub fn slot(&self, number: u32) -> Option<usize>
         ensures { result ≡ slot_at self.now.slots number }
     {
@@ -70,7 +72,7 @@ impl Slots {
         }
     }
 
-    /// The number that lies in a slot.
+    /// Returns the number in a slot.
     pub fn number(&self, slot: usize) -> u32
         requires { slot < length self.now.numbers }
         ensures { slice_get self.now.numbers slot ≡ Some result }
@@ -78,7 +80,7 @@ impl Slots {
         self.numbers[slot]
     }
 
-    /// Makes room for so many more numbers, as long as 32 bits can tell them all apart. Room that was there stays, also where more is refused.
+    /// Reserves room for more numbers. All of them must fit in 32 bits. On an error the old room stays.
     pub fn reserve(&mut self, additional: usize) -> Result<(), AllocError>
         requires { length self.old.slots + additional ≤ 4294967296 }
         ensures room { OnOk result (additional ≤ self.new.room) }
@@ -91,7 +93,7 @@ impl Slots {
         Ok(())
     }
 
-    /// Gives out the next number, for which there is room. It takes no memory.
+    /// Returns the next number, in the next slot, within reserved room. It takes no memory.
     pub fn push_reserved(&mut self) -> u32
         requires { 0 < self.old.room }
         ensures number { result ≡ length self.old.slots }
@@ -105,7 +107,7 @@ impl Slots {
         number
     }
 
-    /// Releases a number, and answers the slot that it had: the number in the last slot comes into it. It takes no memory.
+    /// Releases a number, and returns its slot. The number in the last slot moves there. It takes no memory.
     pub fn release(&mut self, number: u32) -> usize
         requires { IsSome (slot_at self.old.slots number) }
         ensures slot { slot_at self.old.slots number ≡ Some result }
@@ -121,8 +123,8 @@ impl Slots {
         slot as usize
     }
 
-    /// Whether the page of a number has its memory: it has where the number is live, and it has none where all numbers of the page were given
-    /// out and released.
+    /// Returns whether the page of a number has its memory. It does if the number is live, and does not if all numbers of the page were given and
+    /// released.
     pub fn is_present(&self, number: u32) -> bool
         ensures present { IsSome (slot_at self.now.slots number) → IsTrue result }
         ensures gone { IsTakenBack self.now.slots (number / page_size) → result ≡ false }
@@ -130,7 +132,7 @@ impl Slots {
         self.slots.is_present(number as usize)
     }
 
-    /// A law: it does nothing, and its contract tells what holds of the numbers and slots at any time.
+    /// States a law, and does nothing: its contract holds for all numbers and slots at any time.
     pub fn sound(&self)
         ensures fit { Fit self.now.slots self.now.numbers }
         ensures live { count_by is_some self.now.slots ≡ length self.now.numbers }

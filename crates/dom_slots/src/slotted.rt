@@ -10,9 +10,9 @@ use crate::slots::Slots;
 use std::alloc::{AllocError, Global};
 use std::marker::Model;
 
-/// Items that have numbers. A number leads to a slot for as long as its item is not released, and the items lie by slot.
+/// Items by number. Each number has a slot until its item is released, and the items are stored by slot.
 ///
-/// Where one is released the last comes into its slot, so memory is kept for no more items than were there at once.
+/// If one is released, the last item moves into its slot. So the table takes memory only for the most items that were stored at once.
 #[derive(Drop)]
 pub struct Slotted<T> {
     slots: Slots,
@@ -37,7 +37,7 @@ impl<T> Model for Slotted<T> {
 impl<T> Slotted<T> {
     ghost use Rattle.dom_slots.specs.Lends.{lends_in_slot};
 
-    /// No item, and room for none. It takes no memory.
+    /// Returns a table without items. It takes no memory.
     pub fn new(alloc: Global) -> Slotted<T>
         ensures { result ≡ record { slots = []; items = []; room = 0 } }
     {
@@ -47,14 +47,14 @@ impl<T> Slotted<T> {
         }
     }
 
-    /// How many numbers were ever given out.
+    /// Returns how many numbers were ever given.
     pub fn made(&self) -> u64
         ensures { result ≡ length self.now.slots }
     {
         self.slots.made()
     }
 
-    /// How many items there are: there is one slot to each.
+    /// Returns the number of items, which is that of slots.
     pub fn count(&self) -> usize
         ensures slots { result ≡ length self.now.items }
         ensures live { result ≡ count_by is_some (by_slot self.now.slots self.now.items) }
@@ -63,7 +63,7 @@ impl<T> Slotted<T> {
         self.items.len()
     }
 
-    /// The slot of a number; none where the number was released, or was never given out.
+    /// Returns the slot of a number; none if the number was released, or never given.
     pub fn slot(&self, number: u32) -> Option<usize>
         ensures slot { result ≡ slot_at self.now.slots number }
         ensures within { IfSome result (λ slot. slot < length self.now.items) }
@@ -72,7 +72,7 @@ impl<T> Slotted<T> {
         self.slots.slot(number)
     }
 
-    /// Whether there is an item of a number.
+    /// Returns whether a number has an item.
     pub fn holds(&self, number: u32) -> bool
         ensures { result ≡ is_some (item_at (by_slot self.now.slots self.now.items) number) }
     {
@@ -80,7 +80,7 @@ impl<T> Slotted<T> {
         self.slot(number).is_some()
     }
 
-    /// The item of a number; none where the number was released, or was never given out.
+    /// Returns the item of a number; none if the number was released, or never given.
     pub fn get(&self, number: u32) -> Option<&T>
         ensures { option_copied result ≡ item_at (by_slot self.now.slots self.now.items) number }
     {
@@ -88,14 +88,14 @@ impl<T> Slotted<T> {
         Some(&self.items[slot])
     }
 
-    /// The items, by slot.
+    /// Returns the items, by slot.
     pub fn items(&self) -> &[T]
         ensures { result.now ≡ self.now.items }
     {
         self.items.as_slice()
     }
 
-    /// The item in a slot, to be changed.
+    /// Returns the item in a slot, mutably.
     pub fn in_slot_mut(&mut self, slot: usize) -> &mut T
         requires { slot < length self.old.items }
         ensures* writes_back { sem 𝓛 (lends_in_slot T.row self.entry slot result) }
@@ -104,7 +104,7 @@ impl<T> Slotted<T> {
         &mut self.items[slot]
     }
 
-    /// Makes room for so many more items, as long as 32 bits can tell their numbers apart. Room that was there stays, also where more is refused.
+    /// Reserves room for more items. All their numbers must fit in 32 bits. On an error the old room stays.
     pub fn reserve(&mut self, additional: usize) -> Result<(), AllocError>
         requires { length self.old.slots + additional ≤ 4294967296 }
         ensures room { OnOk result (additional ≤ self.new.room) }
@@ -117,7 +117,7 @@ impl<T> Slotted<T> {
         Ok(())
     }
 
-    /// Adds an item, which gets the next number and the next slot; there is room for it. It takes no memory.
+    /// Adds an item with the next number, in the next slot, within reserved room. It takes no memory.
     pub fn push_reserved(&mut self, item: T) -> u32
         requires { 0 < self.old.room }
         ensures number { result ≡ length self.old.slots }
@@ -132,7 +132,7 @@ impl<T> Slotted<T> {
         number
     }
 
-    /// Releases a number, and answers the slot that it had, with the item: the last item comes into it. It takes no memory.
+    /// Releases a number, and returns its slot and its item. The last item moves into the slot. It takes no memory.
     pub fn release(&mut self, number: u32) -> (usize, T)
         requires { IsSome (slot_at self.old.slots number) }
         ensures slot { slot_at self.old.slots number ≡ Some result.0 }
@@ -148,7 +148,7 @@ impl<T> Slotted<T> {
         (slot, item)
     }
 
-    /// A law: it does nothing, and its contract tells what holds of slots and items at any time.
+    /// States a law, and does nothing: its contract holds for all slots and items at any time.
     pub fn sound(&self)
         ensures slotted { IsSlotted self.now.slots self.now.items }
         ensures few { length self.now.slots ≤ 2 ^ 32 }

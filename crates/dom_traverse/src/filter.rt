@@ -19,7 +19,7 @@ impl Model for Rule {
     ghost view = { λ r. record { name = string_bytes r.name; verdict = r.verdict } };
 }
 
-/// The kinds of node that are shown, as `whatToShow` has them, and rules of which the first for a node's name decides.
+/// The kinds of node that are shown, as a `whatToShow` mask, and rules by name. The first rule for a node's name decides.
 ///
 /// Bit `nodeType - 1` of `show` stands for a kind. A node that no rule names is accepted.
 #[derive(Drop)]

@@ -1,4 +1,4 @@
-//! A handle to a node, from which a walk goes to those around it (DOM Standard, "Trees").
+//! A borrowed handle to a node, with steps to its neighbours (DOM Standard, "Trees").
 
 ghost use Rattle.std.specs.Prelude.{◌≡◌, Some, IfSome, true};
 ghost use Rattle.std.specs.Option.{ForSome};
@@ -14,7 +14,7 @@ use dom_kinds::Label;
 use dom_links::{Place, Store};
 use std::marker::Model;
 
-/// A node of a tree that is lent. Its number was looked up once: from here each step goes straight to the node beside, above or below it.
+/// A borrowed node of a tree. Its number was looked up once; each step to a neighbour, parent or child needs no further look-up.
 #[derive(Drop)]
 pub struct At<'a, X> {
     pub(crate) links: &'a Store<Item<X>>,
@@ -42,7 +42,7 @@ impl<'a, X> Model for At<'a, X> {
 }
 
 impl<X> Tree<X> {
-    /// A node, to walk from.
+    /// Returns a handle to a node.
     pub fn at(&self, id: NodeId) -> At<'_, X>
         requires { HasNode self.now.forest id }
         ensures tree { result.tree ≡ self.now }
@@ -59,7 +59,7 @@ impl<X> Tree<X> {
 impl<'a, X> At<'a, X> {
     ghost use Rattle.dom_tree.specs.Spots.{node_at};
 
-    /// A law: what the tree keeps, and that the node is there.
+    /// States a law, and does nothing: its contract holds for the tree and the node at any time.
     pub fn sound(&self)
         ensures forest { IsForest self.now.tree }
         ensures there { HasNode self.now.tree.forest self.now.node }
@@ -67,14 +67,14 @@ impl<'a, X> At<'a, X> {
         let _ = &self.place;
     }
 
-    /// The number of the node.
+    /// Returns the node's number.
     pub fn number(&self) -> NodeId
         ensures { result ≡ self.now.node }
     {
         number_of(self.links, self.place)
     }
 
-    /// The label of the node.
+    /// Returns the node's label.
     pub fn label(&self) -> &Label
         ensures { IfSome (entry_in self.now.tree.forest self.now.node) (λ e. result.now
             ≡ e.value.label) }
@@ -83,7 +83,7 @@ impl<'a, X> At<'a, X> {
         &item.label
     }
 
-    /// The node document.
+    /// Returns the node document (DOM Standard, "Interface Node").
     pub fn document(&self) -> NodeId
         ensures { IfSome (entry_in self.now.tree.forest self.now.node) (λ e. result
             ≡ e.value.document) }
@@ -92,7 +92,7 @@ impl<'a, X> At<'a, X> {
         kept.document
     }
 
-    /// The parent; none for a root.
+    /// Returns the parent; none for a root.
     pub fn parent(&self) -> Option<At<'a, X>>
         ensures tree { ForSome result (λ a. a.tree ≡ self.now.tree) }
         ensures node { node_at result ≡ parent_of self.now.tree.forest self.now.node }
@@ -106,7 +106,7 @@ impl<'a, X> At<'a, X> {
         })
     }
 
-    /// The first child.
+    /// Returns the first child.
     pub fn first(&self) -> Option<At<'a, X>>
         ensures tree { ForSome result (λ a. a.tree ≡ self.now.tree) }
         ensures node { node_at result ≡ head_of (children_of self.now.tree.forest self.now.node) }
@@ -120,7 +120,7 @@ impl<'a, X> At<'a, X> {
         })
     }
 
-    /// The last child.
+    /// Returns the last child.
     pub fn last(&self) -> Option<At<'a, X>>
         ensures tree { ForSome result (λ a. a.tree ≡ self.now.tree) }
         ensures node { node_at result ≡ last_of (children_of self.now.tree.forest self.now.node) }
@@ -134,7 +134,7 @@ impl<'a, X> At<'a, X> {
         })
     }
 
-    /// The next sibling; none for a root.
+    /// Returns the next sibling; none for a root.
     pub fn next(&self) -> Option<At<'a, X>>
         ensures tree { ForSome result (λ a. a.tree ≡ self.now.tree) }
         ensures node { node_at result ≡ next_of self.now.tree.forest self.now.node }
@@ -148,7 +148,7 @@ impl<'a, X> At<'a, X> {
         })
     }
 
-    /// The previous sibling; none for a root.
+    /// Returns the previous sibling; none for a root.
     pub fn prev(&self) -> Option<At<'a, X>>
         ensures tree { ForSome result (λ a. a.tree ≡ self.now.tree) }
         ensures node { node_at result ≡ previous_of self.now.tree.forest self.now.node }
@@ -162,7 +162,7 @@ impl<'a, X> At<'a, X> {
         })
     }
 
-    /// The node that follows in tree order, among the inclusive descendants of `top`.
+    /// Returns the next node in tree order among the inclusive descendants of `top`.
     pub fn next_inside(&self, top: NodeId) -> Option<At<'a, X>>
         requires { among top (ancestors self.now.node self.now.tree.forest) ≡ true }
         ensures tree { ForSome result (λ a. a.tree ≡ self.now.tree) }
@@ -194,7 +194,7 @@ impl<'a, X> At<'a, X> {
         None
     }
 
-    /// The last of the inclusive descendants in tree order.
+    /// Returns the last inclusive descendant in tree order.
     pub fn last_inside(&self) -> At<'a, X>
         ensures tree { result.tree ≡ self.now.tree }
         ensures node { Some result.node ≡ last_of (inclusive_descendants self.now.tree.forest

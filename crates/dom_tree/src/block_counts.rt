@@ -1,4 +1,4 @@
-//! How many children stand in each block of one long list, and in each run of its blocks.
+//! The number of children in each block of a long list, and in each run of blocks.
 
 ghost use Rattle.std.specs.Prelude.{◌≡◌, ℕ, ◌+◌, ◌^◌, ◌<◌, ◌≤◌, length, [], IsTrue, IfOk, false};
 ghost use Rattle.dom_tree.specs.Blocks.{ahead_of, raised, lowered, AreFilled, AreRunsOf};
@@ -6,28 +6,29 @@ ghost use Rattle.dom_tree.specs.Blocks.{ahead_of, raised, lowered, AreFilled, Ar
 use std::alloc::{AllocError, Global};
 use std::marker::Model;
 
-/// How many children a block has that is made.
+/// How many children a block gets when it is made.
 pub(crate) const BLOCK: u32 = 16;
 
-// How many blocks a run has.
+// The number of blocks in a run.
 const RUN: u32 = 256;
 
-// How many children stand in a run whose blocks are made.
+// The number of children in a run of blocks that were just made.
 const RUN_MADE: u32 = 4096;
 
-// How near questions are to each other that are of one place.
+// Queries fewer steps apart than this are at one place.
 const ONE_PLACE: usize = 128;
 
-/// How many blocks there must be room for, with so many children and some more.
+/// Returns for how many blocks a list needs room, with `count` children and some more.
 pub(crate) fn blocks_of(count: u32) -> usize
     ensures { result < 2 ^ 32 }
 {
     (count / BLOCK) as usize + 10
 }
 
-/// How many children stand in each block of a list, in the order of the blocks.
+/// The number of children in each block of a list, in the order of the blocks.
 ///
-/// `runs` has how many stand in each 256 blocks together; it may have none. `outgrown` is how often the blocks no longer told where a child stands. `is_single` tells that the children are rather numbered one by one, as something is asked at one place alone.
+/// `runs` has the number of children in each 256 blocks together; it may be empty. `outgrown` is how often the blocks could no longer give an index.
+/// `is_single` is set if the children are numbered one by one instead, because all queries are at one place.
 #[derive(Drop)]
 pub(crate) struct BlockCounts {
     each: Vec<u32>,
@@ -47,7 +48,7 @@ impl Model for BlockCounts {
     ghost invariant = { λ c. AreRuns c.runs.items c.each.items };
 }
 
-// What stands in the counts from one on and ahead of another, over what stands ahead of the first.
+// Returns the sum of the counts from `from` until `until`, plus `ahead`.
 fn add_up(counts: &[u32], from: usize, until: usize, ahead: u32) -> u32
     requires there { until ≤ length counts.now }
     requires order { from ≤ until }
@@ -62,7 +63,7 @@ fn add_up(counts: &[u32], from: usize, until: usize, ahead: u32) -> u32
     sum
 }
 
-// One more in a block. It lets go of them where there is no such block, or its count is full.
+// Counts one child more in a block. Discards all counts if there is no such block, or if its count is at its maximum.
 fn raise(counts: &mut Vec<u32>, block: u32)
     ensures { counts.new.items ≡ raised counts.old.items block }
 {
@@ -72,7 +73,7 @@ fn raise(counts: &mut Vec<u32>, block: u32)
     }
 }
 
-// One less in a block. It lets go of them where there is no such block, or nothing stands in it.
+// Counts one child less in a block. Discards all counts if there is no such block, or if it is empty.
 fn lower(counts: &mut Vec<u32>, block: u32)
     ensures { counts.new.items ≡ lowered counts.old.items block }
 {
@@ -82,7 +83,7 @@ fn lower(counts: &mut Vec<u32>, block: u32)
     }
 }
 
-// Makes blocks of so many children, where there is room for them; else there are none.
+// Makes blocks for `count` children, if there is room for them; otherwise there are none.
 fn fill(counts: &mut Vec<u32>, count: u32) -> bool
     ensures filled { IsTrue result → AreFilled counts.new.items count }
     ensures none { result ≡ false → counts.new.items ≡ [] }
@@ -98,7 +99,7 @@ fn fill(counts: &mut Vec<u32>, count: u32) -> bool
     true
 }
 
-// Makes runs of so many children in blocks just made, where there is room for them; else there are none.
+// Makes runs for `count` children in blocks just made, if there is room for them; otherwise there are none.
 fn fill_runs(runs: &mut Vec<u32>, count: u32)
     ensures { AreRunsOf runs.new.items count }
 {
@@ -112,7 +113,7 @@ fn fill_runs(runs: &mut Vec<u32>, count: u32)
     }
 }
 
-// The first of the counts from one on that reaches past an index, and how far into it that is.
+// Returns the position of the count that contains an index, from `from` on, and the offset of the index in it.
 fn pass(counts: &[u32], from: usize, index: usize) -> (usize, usize) {
     let mut behind = index;
     for passed in from..counts.len() {
@@ -126,7 +127,7 @@ fn pass(counts: &[u32], from: usize, index: usize) -> (usize, usize) {
 }
 
 impl BlockCounts {
-    /// No blocks, and room for those of twice so many children.
+    /// Returns no blocks, with room for those of twice `count` children.
     pub(crate) fn with_capacity(alloc: Global, count: u32) -> Result<BlockCounts, AllocError>
         ensures { IfOk result (λ counts. counts ≡ []) }
     {
@@ -141,7 +142,7 @@ impl BlockCounts {
         })
     }
 
-    /// Makes room for the blocks of so many children, and of twice as many if there is not.
+    /// Reserves room for the blocks of `count` children. If there is too little, it reserves room for twice as many.
     pub(crate) fn reserve(&mut self, count: u32) -> Result<(), AllocError>
         ensures { self.new ≡ self.old }
     {
@@ -158,7 +159,8 @@ impl BlockCounts {
         Ok(())
     }
 
-    // Whether the children are rather numbered one by one: blocks were outgrown, so often as is tried, and since then questions are near each other.
+    // Returns whether to number the children one by one instead. It tries so if the blocks were outgrown 0, 1, 3, 7 and so on times before, and keeps
+    // to it as long as queries are near each other.
     fn gives_way(&mut self, steps: usize) -> bool
         ensures { self.new ≡ self.old }
     {
@@ -171,14 +173,14 @@ impl BlockCounts {
         self.is_single
     }
 
-    /// How many blocks there are.
+    /// Returns the number of blocks.
     pub(crate) fn len(&self) -> usize
         ensures { result ≡ length self.now }
     {
         self.each.len()
     }
 
-    /// How many children stand in the blocks ahead of one.
+    /// Returns the number of children in the blocks before a block.
     pub(crate) fn ahead_of(&self, block: usize) -> u32
         requires there { block ≤ length self.now }
         requires few { ahead_of self.now block < 2 ^ 32 }
@@ -189,7 +191,7 @@ impl BlockCounts {
         add_up(&self.each, runs * RUN as usize, block, ahead)
     }
 
-    /// The block in which the child at an index stands.
+    /// Returns the block of the child at an index.
     pub(crate) fn block_of(&self, index: usize) -> Option<usize> {
         let (runs, behind) = pass(&self.runs, 0, index);
         let (block, _) = pass(&self.each, runs.checked_mul(RUN as usize)?, behind);
@@ -222,7 +224,8 @@ impl BlockCounts {
         }
     }
 
-    /// Makes blocks of so many children, where there is room for them and they serve; else there are none. The child that is asked for stands so many steps behind the nearest one that is known.
+    /// Makes blocks for `count` children, if there is room and they help; otherwise there are none. The queried child is `steps` after the nearest
+    /// one with a cached index.
     pub(crate) fn fill(&mut self, count: u32, steps: usize) -> bool
         ensures filled { IsTrue result → AreFilled self.new count }
         ensures none { result ≡ false → self.new ≡ [] }

@@ -1,4 +1,4 @@
-//! How the children of a long list come into blocks, and stay right in them, in the same time at any number of siblings.
+//! Inserts children of long lists into blocks and removes them, in constant time.
 
 ghost use Rattle.std.specs.Prelude.{◌≡◌, ℕ, ◌+◌, ◌<◌, ◌≤◌, nat_eq, nat_lt, min, length, Some, IfSome, slice_get};
 ghost use Rattle.std.specs.Option.{ForSome};
@@ -16,10 +16,10 @@ use crate::nearby::{self, named, number_of};
 use crate::upkeep::{index_of, number_up_to, reach_of, set_index, set_sure, sure_of};
 use dom_links::{Link, Place, Store};
 
-// How far the start of a block is looked for.
+// The most steps to the start of a block.
 const WIDE: u32 = 512;
 
-/// Whether a parent's children may stand in blocks. It takes no look-up.
+/// Returns whether a parent's children may be in blocks, without a look-up.
 pub(crate) fn may_be_blocked<X>(links: &Store<Item<X>>, parent: Place) -> bool
     requires { IsPlaced links.now parent }
     ensures { result ≡ nat_eq (reach_in (entry_behind links.now parent)) unknown }
@@ -27,7 +27,7 @@ pub(crate) fn may_be_blocked<X>(links: &Store<Item<X>>, parent: Place) -> bool
     reach_of(links, parent) == UNKNOWN
 }
 
-// The block of the child that will stand behind a new one, or of the last.
+// Returns the block of the child that follows a new one, or of the last child.
 fn block_beside<X>(links: &Store<Item<X>>, parent: Place, before: Link) -> u32
     requires parent_placed { IsPlaced links.now parent }
     requires before_placed { ForSome before (λ b. IsPlaced links.now b) }
@@ -43,7 +43,7 @@ fn block_beside<X>(links: &Store<Item<X>>, parent: Place, before: Link) -> u32
     }
 }
 
-/// The block that a new child is to come into, where the children of its parent may stand in blocks.
+/// Returns the block for a new child, if the children of its parent may be in blocks.
 pub(crate) fn block_put<X>(links: &Store<Item<X>>, parent: Place, before: Link) -> Option<u32>
     requires parent_placed { IsPlaced links.now parent }
     requires before_placed { ForSome before (λ b. IsPlaced links.now b) }
@@ -56,7 +56,7 @@ pub(crate) fn block_put<X>(links: &Store<Item<X>>, parent: Place, before: Link) 
     None
 }
 
-/// Puts a child that has just come into a parent's list into a block.
+/// Puts a child that was just linked into a block.
 pub(crate) fn blocked_put<X>(
     links: &mut Store<Item<X>>,
     blocks: &mut Blocks,
@@ -76,7 +76,7 @@ pub(crate) fn blocked_put<X>(
     set_sure(links, parent, 0, UNKNOWN);
 }
 
-// Another sibling is near, if a child that is about to be cut is the one that was last asked for among many.
+// Remembers the next sibling near a block in place of a child that is about to be removed, if it was that child.
 fn pass_on<X>(links: &Store<Item<X>>, blocks: &mut Blocks, parent: Place, child: Place, block: u32)
     requires parent_placed { IsPlaced links.now parent }
     requires child_placed { IsPlaced links.now child }
@@ -90,7 +90,7 @@ fn pass_on<X>(links: &Store<Item<X>>, blocks: &mut Blocks, parent: Place, child:
     );
 }
 
-/// Counts a child that is about to be cut out of its block.
+/// Counts a child that is about to be removed out of its block.
 pub(crate) fn blocked_cut<X>(links: &Store<Item<X>>, blocks: &mut Blocks, child: Place)
     requires placed { IsPlaced links.now child }
     requires has_parent { HasParent links.now child }
@@ -109,7 +109,7 @@ pub(crate) fn blocked_cut<X>(links: &Store<Item<X>>, blocks: &mut Blocks, child:
     }
 }
 
-// The previous sibling, where it stands in this block.
+// Returns the previous sibling, if it is in the block.
 fn prev_in_block<X>(links: &Store<Item<X>>, child: Place, block: u32) -> Option<Place>
     requires { IsPlaced links.now child }
     ensures { Leads links.now result (previous_in_block (entry_at links.now.arena)
@@ -122,7 +122,8 @@ fn prev_in_block<X>(links: &Store<Item<X>>, child: Place, block: u32) -> Option<
     None
 }
 
-/// The index of a child that stands in a block, where the block starts near it. It goes from the child to the start of its block, and over the counts of the blocks ahead.
+/// Returns the index of a child in a block, if the block starts near it. Walks to the start of the block, and adds up the counts of the blocks before
+/// it.
 pub(crate) fn index_in_block<X>(
     links: &Store<Item<X>>,
     blocks: &Blocks,
@@ -157,7 +158,7 @@ pub(crate) fn index_in_block<X>(
     None
 }
 
-/// Whether one child comes before another, where they stand in different blocks. It goes by the blocks alone, with no walk.
+/// Returns whether one child comes before another, if they are in different blocks. Compares the blocks alone, without a walk.
 pub(crate) fn before_by_block<X>(
     links: &Store<Item<X>>,
     blocks: &Blocks,
@@ -188,7 +189,7 @@ pub(crate) fn before_by_block<X>(
     Some(a_block < b_block)
 }
 
-// Notes the child at a place where a block begins.
+// Remembers a child as near its block, if a block begins at its place.
 fn note_first<X>(
     links: &Store<Item<X>>,
     blocks: &mut Blocks,
@@ -205,7 +206,7 @@ fn note_first<X>(
     }
 }
 
-// Writes for each of a parent's children in which block it stands.
+// Writes the block of each of a parent's children.
 fn write_blocks<X>(
     links: &mut Store<Item<X>>,
     blocks: &mut Blocks,
@@ -242,7 +243,8 @@ fn number_blocks<X>(links: &mut Store<Item<X>>, blocks: &mut Blocks, parent: Pla
     set_sure(links, parent, 0, UNKNOWN);
 }
 
-/// Makes the index of a child known, which is given: in blocks, where there is room for these, or else with those of its siblings ahead of it. A child that is known in its block is then the one that is near it.
+/// Caches the index of a child: in blocks if there is room for them, otherwise together with the indices of its preceding siblings. If its block
+/// already gives its index, it becomes the node near that block.
 pub(crate) fn number_around<X>(
     links: &mut Store<Item<X>>,
     blocks: &mut Blocks,

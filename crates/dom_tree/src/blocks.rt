@@ -1,4 +1,4 @@
-//! The blocks of long lists of children: how many children stand in each.
+//! The blocks of long lists of children: the number of children in each.
 
 ghost use Rattle.std.specs.Prelude.{◌≡◌, ℕ, ◌^◌, ◌<◌, ◌==◌, if◌then◌else◌, option_copied, [], IsTrue, false, nat_eq};
 ghost use Rattle.indexmap.specs.IndexMap.{IsUnique};
@@ -11,12 +11,13 @@ use indexmap::IndexMap;
 use std::alloc::{AllocError, Global};
 use std::marker::Model;
 
-/// A list that has more children is long. No more than these stand in no blocks.
+/// A list with more children than this is long. Any other has no blocks.
 pub(crate) const LONG: u32 = 128;
 
-/// For each parent whose children stand in blocks how many stand in each, in their order.
+/// The blocks of each parent whose children are in blocks, with the number of children in each, in order.
 ///
-/// `near` has a node for each block, mostly one of its children: whoever goes by it has to see where it stands. The first of them is the child last asked for, if the children are numbered one by one. `was_refused` tells that memory for blocks was refused once: from then on each list that changes sees whether it has room.
+/// `near` has a node for each block, mostly one of its children; a caller has to check where the node is. If the children are numbered one by one,
+/// the first is the child of the last query. `was_refused` is set once memory for blocks was refused: each list then checks its room at each change.
 #[derive(Drop)]
 pub(crate) struct Blocks {
     by_slot: IndexMap<usize, BlockCounts>,
@@ -35,7 +36,7 @@ impl Model for Blocks {
     ghost invariant = { λ b. IsUnique nat_eq b.by_slot };
 }
 
-// Lets go of the counts of a parent.
+// Frees the counts of a parent.
 fn remove(by_slot: &mut IndexMap<usize, BlockCounts>, parent: usize)
     ensures counts { (p : ℕ) → counts_in by_slot.new.entries p
         ≡ counts_but parent [] by_slot.old.entries p }
@@ -44,7 +45,7 @@ fn remove(by_slot: &mut IndexMap<usize, BlockCounts>, parent: usize)
     let _ = by_slot.swap_remove(&parent);
 }
 
-// Makes room for the counts of a parent that has so many children.
+// Reserves room for the counts of a parent with `count` children.
 fn reserve(
     by_slot: &mut IndexMap<usize, BlockCounts>,
     parent: usize,
@@ -65,7 +66,7 @@ fn reserve(
     Ok(())
 }
 
-// Makes room for a node of each block of a parent that has so many children.
+// Reserves room for a node of each block of a parent with `count` children.
 fn reserve_near(
     near: &mut IndexMap<usize, Vec<NodeId>>,
     parent: usize,
@@ -82,7 +83,7 @@ fn reserve_near(
     Ok(())
 }
 
-// Makes room for so many nodes, and for twice as many if there is not.
+// Reserves room for the nodes of `blocks` blocks. If there is too little, it reserves room for twice as many.
 fn grow(nodes: &mut Vec<NodeId>, blocks: usize) -> Result<(), AllocError>
     requires few { blocks < 2 ^ 32 }
 {
@@ -92,21 +93,21 @@ fn grow(nodes: &mut Vec<NodeId>, blocks: usize) -> Result<(), AllocError>
     Ok(())
 }
 
-// Puts a node among those near a block, where there is room.
+// Appends a node, if there is room.
 fn push(nodes: &mut Vec<NodeId>, node: NodeId) {
     if nodes.len() < nodes.capacity() {
         nodes.push_reserved(node);
     }
 }
 
-// Puts another node in the place of one that goes.
+// Replaces the node near a block, if it is the removed one.
 fn replace(nodes: &mut Vec<NodeId>, block: usize, gone: NodeId, next: NodeId) {
     if nodes.get(block).copied() == Some(gone) {
         nodes[block] = next;
     }
 }
 
-// Puts a node near a block, where there is one for it.
+// Sets the node near a block, if there is one.
 fn put_at(nodes: &mut Vec<NodeId>, block: usize, node: NodeId) {
     if block < nodes.len() {
         nodes[block] = node;
@@ -114,7 +115,7 @@ fn put_at(nodes: &mut Vec<NodeId>, block: usize, node: NodeId) {
 }
 
 impl Blocks {
-    /// No blocks, and room for none.
+    /// Returns a table without blocks. It takes no memory.
     pub(crate) fn new(alloc: Global) -> Blocks
         ensures { result ≡ [] }
     {
@@ -125,7 +126,7 @@ impl Blocks {
         }
     }
 
-    /// How many children of a parent stand in each of its blocks, where it has been given any.
+    /// Returns the number of children in each block of a parent, if it has blocks.
     pub(crate) fn counts(&self, parent: Slot) -> Option<&BlockCounts>
         ensures { counts_of (option_copied result) ≡ counts_in self.now parent }
     {
@@ -152,7 +153,8 @@ impl Blocks {
         }
     }
 
-    /// Makes blocks of a parent's children, where they are many and there is room, and where it serves more than one place; else the parent has none from then on. The child that is asked for stands so many steps behind the nearest one that is known.
+    /// Makes blocks for a parent's children if there are many, if there is room, and if more than one place is queried; otherwise the parent has
+    /// none. The queried child is `steps` after the nearest one with a cached index.
     pub(crate) fn fill(&mut self, parent: Slot, count: u32, steps: usize) -> bool
         ensures filled { IsTrue result → AreFilled (counts_in self.new parent) count }
         ensures none { result ≡ false → counts_in self.new parent ≡ [] }
@@ -172,7 +174,7 @@ impl Blocks {
         false
     }
 
-    /// Lets go of the blocks of a parent, and gives their memory back.
+    /// Frees the blocks of a parent.
     pub(crate) fn remove(&mut self, parent: Slot)
         ensures { (p : ℕ) → counts_in self.new p ≡ counts_but parent [] self.old p }
     {
@@ -182,7 +184,8 @@ impl Blocks {
         }
     }
 
-    /// Makes room for blocks of a parent's children, each time when so many more as make a list long have come, or each time if memory for it was refused before: so a question finds it.
+    /// Reserves room for the blocks of a parent's children, so that a query finds it. It does so if their number is a multiple of 128, or if memory
+    /// was refused before.
     pub(crate) fn make_room(&mut self, parent: Slot, count: u32) -> Result<(), AllocError>
         ensures { (p : ℕ) → counts_in self.new p ≡ counts_in self.old p }
     {
@@ -192,7 +195,7 @@ impl Blocks {
         self.take_room(parent, count)
     }
 
-    /// Makes room for the blocks of a parent that is to have so many children.
+    /// Reserves room for the blocks of a parent that is going to have `count` children.
     #[inline(never)]
     pub(crate) fn take_room(&mut self, parent: Slot, count: u32) -> Result<(), AllocError>
         ensures { (p : ℕ) → counts_in self.new p ≡ counts_in self.old p }
@@ -205,14 +208,14 @@ impl Blocks {
         room_near
     }
 
-    /// A node that stood near the child at an index when the blocks were made; without blocks the one last asked for.
+    /// Returns a node that was near the child at an index when the blocks were made; without blocks, the child of the last query.
     pub(crate) fn near(&self, parent: Slot, index: usize) -> Option<NodeId> {
         let block = self.counts(parent)?.block_of(index).unwrap_or(0);
         let nodes = self.near.get(&parent.number())?;
         nodes.get(block).copied()
     }
 
-    /// Notes the first child of the next block of a parent, where there is room.
+    /// Remembers the first child of a parent's next block, if there is room.
     pub(crate) fn note(&mut self, parent: Slot, node: NodeId)
         ensures { self.new ≡ self.old }
     {
@@ -221,7 +224,7 @@ impl Blocks {
         }
     }
 
-    /// Another node is near a block in place of one that goes.
+    /// Replaces the node near a block, if it is `gone`.
     pub(crate) fn pass_on(&mut self, parent: Slot, block: u32, gone: NodeId, next: Option<NodeId>)
         ensures { self.new ≡ self.old }
     {
@@ -233,7 +236,7 @@ impl Blocks {
         }
     }
 
-    /// A node is near a block from now on.
+    /// Sets the node near a block.
     pub(crate) fn come_near(&mut self, parent: Slot, block: u32, node: NodeId)
         ensures { self.new ≡ self.old }
     {
@@ -242,7 +245,7 @@ impl Blocks {
         }
     }
 
-    // Forgets which nodes are near the blocks of a parent.
+    // Forgets the nodes near a parent's blocks.
     fn forget(&mut self, parent: Slot)
         ensures { self.new ≡ self.old }
     {

@@ -1,4 +1,4 @@
-//! The children of a node, one after another (DOM Standard, "Trees").
+//! An iterator over the children of a node (DOM Standard, "Trees").
 
 ghost use Rattle.std.specs.Prelude.{◌≡◌, [], Some, MatchOption};
 ghost use Rattle.std.specs.Option.{ForSome};
@@ -12,7 +12,7 @@ use crate::tree::Tree;
 use dom_links::{Link, Store};
 use std::marker::Model;
 
-/// The children of a node that are still to come, in tree order. It goes from one to the next in the store.
+/// The remaining children of a node, in tree order. It follows the links of the store.
 #[derive(Drop)]
 pub struct Children<'a, X> {
     links: &'a Store<Item<X>>,
@@ -49,7 +49,7 @@ impl<'a, X> Iterator for Children<'a, X> {
 }
 
 impl<X> Tree<X> {
-    /// The children of a node, in tree order.
+    /// Returns the children of a node, in tree order.
     pub fn children(&self, parent: NodeId) -> Children<'_, X>
         requires { HasNode self.now.forest parent }
         ensures { result ≡ children_of self.now.forest parent }
@@ -62,7 +62,7 @@ impl<X> Tree<X> {
         }
     }
 
-    /// The children of a node from one of them on; none where no child is given.
+    /// Returns the children of a node from a given one on; none if no child is given.
     pub fn children_from(&self, parent: NodeId, child: Option<NodeId>) -> Children<'_, X>
         requires { ForSome child (λ c. parent_of self.now.forest c ≡ Some parent) }
         ensures { MatchOption child (result ≡ []) (λ c. result

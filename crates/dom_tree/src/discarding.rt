@@ -1,4 +1,4 @@
-//! Letting go of a tree. The DOM Standard leaves it to garbage collection.
+//! Discarding a tree. The DOM Standard leaves it to garbage collection.
 
 ghost use Rattle.std.specs.Prelude.{◌≡◌, [], None, Some, IfSome, false};
 ghost use Rattle.dom_model.specs.Forests.Forest.{HasNode, parent_of, children_of, without};
@@ -12,7 +12,9 @@ use crate::tallying::tallied_take;
 use crate::tree::Tree;
 
 impl<X> Tree<X> {
-    /// Whether something outside of a node's tree names the tree: a parent, or a node that has its node document there. It looks at the nodes of the tree alone, as long as nodes are counted by their node documents.
+    /// Returns whether anything outside of a node's subtree refers to it: the node's parent, or a node with its node document in the subtree.
+    ///
+    /// Visits only the nodes of the subtree, as long as the nodes of each node document are counted.
     pub fn refers(&self, top: NodeId) -> bool
         requires { HasNode self.now.forest top }
         ensures { result ≡ is_held_outside self.now.forest top }
@@ -32,7 +34,7 @@ impl<X> Tree<X> {
         false
     }
 
-    // Whether more nodes have their node document in a root's tree than those of the tree that do; none where nodes are not counted by their node documents.
+    // Returns whether nodes outside of a root's tree have their node document in it; none if the nodes of each node document are not counted.
     fn refers_by_count(&self, top: NodeId) -> Option<bool>
         requires held { HasNode self.now.forest top }
         requires no_parent { parent_of self.now.forest top ≡ None }
@@ -53,7 +55,7 @@ impl<X> Tree<X> {
         }
     }
 
-    // Whether there is such a node, outside of the tree, with its node document in it.
+    // Returns whether a node exists, is outside of the tree, and has its node document in it.
     fn refers_from(&self, top: NodeId, id: NodeId) -> bool
         ensures { result ≡ refers_from self.now.forest top id }
     {
@@ -73,7 +75,7 @@ impl<X> Tree<X> {
 }
 
 impl<X: Drop> Tree<X> {
-    /// Lets go of a root and of all that stands under it, from the leaves up. Their numbers are not used again.
+    /// Frees a root and all its descendants, from the leaves up. Their numbers are not reused.
     pub fn free(&mut self, top: NodeId)
         requires held { HasNode self.old.forest top }
         requires unnamed { is_held_outside self.old.forest top ≡ false }
@@ -94,7 +96,7 @@ impl<X: Drop> Tree<X> {
         }
     }
 
-    // Lets go of one root without children.
+    // Frees a root without children.
     fn take_root(&mut self, id: NodeId)
         requires held { HasNode self.old.forest id }
         requires no_parent { parent_of self.old.forest id ≡ None }
@@ -106,7 +108,8 @@ impl<X: Drop> Tree<X> {
         self.take_alone(id);
     }
 
-    // Lets go of one root without children, in itself. Where other nodes still have it as their node document, nodes are no longer counted by these.
+    // Frees a root without children that is its own node document. If it is the node document of others, the nodes of each node document are no longer
+    // counted.
     fn take_alone(&mut self, id: NodeId)
         requires no_parent { parent_of self.old.forest id ≡ None }
         requires no_child { children_of self.old.forest id ≡ [] }

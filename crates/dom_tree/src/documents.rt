@@ -1,4 +1,4 @@
-//! Node documents, and how many nodes have each (DOM Standard, "Interface Node").
+//! Node documents, and the number of nodes of each (DOM Standard, "Interface Node").
 
 ghost use Rattle.std.specs.Prelude.{◌≡◌, ◌+◌, ◌<◌, ◌^◌, Some, IfSome};
 ghost use Rattle.dom_model.specs.Forests.Forest.{HasNode, with_node, in_document};
@@ -13,7 +13,7 @@ use crate::node_id::NodeId;
 use crate::tree::Tree;
 use dom_links::{Place, Store};
 
-// Sets how many nodes have the node at a place as their node document.
+// Sets the number of nodes whose node document is the node at a place.
 fn set_owned<X>(links: &mut Store<Item<X>>, place: Place, owned: u32)
     requires { IsPlaced links.old place }
     ensures { links.new ≡ with_arena (owning links.old.arena (slot_of links.old place) owned)
@@ -45,7 +45,7 @@ fn count_out<X>(links: &mut Store<Item<X>>, document: Place)
     set_owned(links, document, owned - 1);
 }
 
-// Sets the node document of the node at a place, and answers the former one.
+// Sets the node document of the node at a place, and returns the old one.
 fn replace_document<X>(links: &mut Store<Item<X>>, place: Place, document: NodeId) -> NodeId
     requires { IsPlaced links.old place }
     ensures former { document_in_slot (entry_behind links.old place) ≡ Some result }
@@ -59,7 +59,7 @@ fn replace_document<X>(links: &mut Store<Item<X>>, place: Place, document: NodeI
 }
 
 impl<X> Tree<X> {
-    /// Sets the node document of one node. Where no node has that number, nodes are no longer counted by their node documents.
+    /// Sets the node document of one node. If no node has that number, the nodes of each node document are no longer counted.
     #[inline(always)]
     pub(crate) fn move_to(&mut self, id: NodeId, document: NodeId)
         requires { HasNode self.old.forest id }
@@ -82,14 +82,14 @@ impl<X> Tree<X> {
         count_in(&mut self.links, to);
     }
 
-    /// A law: how many nodes there can be.
+    /// States a law, and does nothing: its contract bounds the number of nodes.
     pub(crate) fn fits(&self)
         ensures { self.now.made < 2 ^ 32 }
     {
         let _ = &self.links;
     }
 
-    /// How many nodes have a node as their node document, where that is known without a look at them.
+    /// Returns the number of nodes whose node document is a node, if they are counted.
     pub(crate) fn owned(&self, id: NodeId) -> Option<u64>
         requires { HasNode self.now.forest id }
         ensures { IfSome result (λ n. n ≡ owned_by self.now.forest self.now.made id) }

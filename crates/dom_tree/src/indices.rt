@@ -1,4 +1,4 @@
-//! Indices that are kept beside the nodes.
+//! Caches of sibling indices.
 
 ghost use Rattle.std.specs.Prelude.{◌≡◌, nat_lt, slice_get, IsSome, IfSome};
 ghost use Rattle.dom_model.specs.Forests.Forest.{HasNode, parent_of, children_of, index_of};
@@ -11,7 +11,7 @@ use crate::tree::Tree;
 use std::alloc::AllocError;
 
 impl<X> Tree<X> {
-    /// The number of preceding siblings, where it is known without counting.
+    /// Returns the cached index among the siblings, if any.
     pub fn kept_index(&self, id: NodeId) -> Option<usize>
         requires { HasNode self.now.forest id }
         ensures { IfSome result (λ i. i ≡ index_of self.now.forest id) }
@@ -26,7 +26,7 @@ impl<X> Tree<X> {
         None
     }
 
-    // Makes an index that was found known: in a block, or until the list changes in front of it, with those of the siblings ahead.
+    // Caches an index that was found: in a block, or with the indices of the preceding siblings until the list changes before it.
     fn make_known(&mut self, id: NodeId, index: usize)
         requires held { HasNode self.old.forest id }
         requires index { index ≡ index_of self.old.forest id }
@@ -39,7 +39,9 @@ impl<X> Tree<X> {
         }
     }
 
-    /// Makes room for blocks of a parent's children, if these are many: an index is then known at any place, also between changes of the list. `Err` where more memory is refused.
+    /// Reserves room for blocks of a parent's children, if there are many. An index is then cached at any place, even if the list changes.
+    ///
+    /// Fails if it is out of memory.
     #[inline(always)]
     pub fn make_room(&mut self, parent: NodeId) -> Result<(), AllocError>
         requires { HasNode self.old.forest parent }
@@ -53,7 +55,10 @@ impl<X> Tree<X> {
         self.blocks.make_room(self.links.slot(place), count)
     }
 
-    /// Makes room for blocks of a parent's children and of so many that are to come, if these are many together: an index is then known at any place, however they came. `Err` where more memory is refused.
+    /// Reserves room for blocks of a parent's children and of `more` that are going to be inserted, if these are many together. An index is then
+    /// cached at any place, however they are inserted.
+    ///
+    /// Fails if it is out of memory.
     pub fn make_room_for(&mut self, parent: NodeId, more: usize) -> Result<(), AllocError>
         requires { HasNode self.old.forest parent }
         ensures { self.new ≡ self.old }
@@ -67,7 +72,7 @@ impl<X> Tree<X> {
         self.blocks.take_room(self.links.slot(place), count)
     }
 
-    /// Numbers the children of a parent, so that each child's index is known until the list changes in front of it. It takes no memory.
+    /// Caches the index of each child of a parent, until the list changes before it. It takes no memory.
     pub fn number_children(&mut self, parent: NodeId)
         requires { HasNode self.old.forest parent }
         ensures { self.new ≡ self.old }
@@ -79,9 +84,13 @@ impl<X> Tree<X> {
         }
     }
 
-    /// The number of preceding siblings; 0 for a root. It looks 64 steps to both sides, and where it does not find it there it makes it known, with the index of each sibling ahead, until the list changes in front of it. It takes no memory.
+    /// Returns the index among the siblings, and caches it if it is not found near; 0 for a root. It takes no memory.
     ///
-    /// So what asks for one index after another and changes the list there, from either end or from some place on, takes no more steps a question than lie between two of them, once it has come to the first.
+    /// It looks 64 steps to both sides. If it finds nothing there, it caches the index, and the index of each preceding sibling, until the list
+    /// changes before it.
+    ///
+    /// So after the first query, a caller that queries one index after another pays at most the steps between two of them. That holds even if it
+    /// changes the list there, from either end or from any place on.
     pub fn found_index(&mut self, id: NodeId) -> usize
         requires { HasNode self.old.forest id }
         ensures index { result ≡ index_of self.old.forest id }
@@ -95,7 +104,7 @@ impl<X> Tree<X> {
         index
     }
 
-    /// The child at an index. Where it stands far from both ends its index is made known, and in blocks it is found again with no walk. It takes no memory.
+    /// Returns the child at an index. If it is far from both ends, its index is cached, and blocks find it again without a walk. It takes no memory.
     pub fn found_child(&mut self, id: NodeId, index: usize) -> Option<NodeId>
         requires { HasNode self.old.forest id }
         ensures child { result ≡ slice_get (children_of self.old.forest id) index }
@@ -109,7 +118,9 @@ impl<X> Tree<X> {
         Some(child)
     }
 
-    /// Whether `a` comes before `b` among the children of their parent. Where no blocks tell it, and it is not found 64 steps to both sides of `a`, the indices of both are made known, so that it is known when it is asked for again. It takes no memory.
+    /// Returns whether `a` comes before `b` among the children of their parent. It takes no memory.
+    ///
+    /// If blocks do not decide it, and it is not found within 64 steps to both sides of `a`, the indices of both are cached for the next query.
     pub fn found_comes_before(&mut self, a: NodeId, b: NodeId) -> bool
         requires a_held { HasNode self.old.forest a }
         requires b_held { HasNode self.old.forest b }

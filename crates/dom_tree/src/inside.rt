@@ -1,4 +1,4 @@
-//! What stands inside a node: its inclusive descendants (DOM Standard, "Trees").
+//! The inclusive descendants of a node (DOM Standard, "Trees").
 
 ghost use Rattle.std.specs.Prelude.{◌≡◌, ◌==◌, ◌≤◌, ℕ, Bool, length, Some, None, IsSome, true, if◌then◌else◌};
 ghost use Rattle.dom_model.specs.PlainLists.Lists.{among, after, last_of};
@@ -10,7 +10,7 @@ use crate::node_id::NodeId;
 use crate::tree::Tree;
 
 impl<X> Tree<X> {
-    /// Whether a number is that of an inclusive descendant of `top`. The tree may hold neither; it does not climb where `top` has no children.
+    /// Returns whether a node is an inclusive descendant of `top`; neither has to exist. It does not climb if `top` has no children.
     pub fn is_inside(&self, top: NodeId, node: NodeId) -> bool
         ensures { result ≡ among node (inclusive_descendants self.now.forest top) }
     {
@@ -25,7 +25,7 @@ impl<X> Tree<X> {
         }
     }
 
-    /// The node that follows in tree order, among the inclusive descendants of `top`.
+    /// Returns the next node in tree order among the inclusive descendants of `top`.
     pub fn next_inside(&self, top: NodeId, id: NodeId) -> Option<NodeId>
         requires held { HasNode self.now.forest id }
         requires under { among top (ancestors id self.now.forest) ≡ true }
@@ -47,7 +47,7 @@ impl<X> Tree<X> {
         None
     }
 
-    /// The last of the inclusive descendants in tree order.
+    /// Returns the last inclusive descendant in tree order.
     pub fn last_inside(&self, id: NodeId) -> NodeId
         requires { HasNode self.now.forest id }
         ensures { Some result ≡ last_of (inclusive_descendants self.now.forest id) }
@@ -61,10 +61,10 @@ impl<X> Tree<X> {
         number_of(&self.links, here)
     }
 
-    /// Whether a test passes for an inclusive descendant of `top`. It asks them in tree order, and where it has asked `steps` of them, and there are more, it has no answer.
+    /// Returns whether a test holds for an inclusive descendant of `top`; none if it tested `steps` of them and there are more.
     ///
-    /// What it finds is said of a test whose answer at a node is always the same. Whatever the test, it has an answer where there are no more
-    /// than `steps`.
+    /// It tests them in tree order. Its contract is about a test that always has the same result at a node. For any test, it returns a result if
+    /// there are at most `steps` nodes.
     pub fn any_inside<F: Fn(NodeId) -> bool>(
         &self,
         top: NodeId,
@@ -93,7 +93,7 @@ impl<X> Tree<X> {
         None
     }
 
-    /// One step of a climb to `top`, or to a root: there it ends, and where the tree does not hold the node.
+    /// Returns the parent, as a step of a climb to `top` or to a root; none at its end, and for a node that does not exist.
     pub fn climb_to(&self, top: NodeId, node: NodeId) -> Option<NodeId>
         ensures { result ≡ (if node == top then None else parent_of self.now.forest node) }
     {
@@ -103,10 +103,10 @@ impl<X> Tree<X> {
         self.parent(node)
     }
 
-    /// How many inclusive descendants of `top` a walk over them passes until it ends, or until the climbs from some nodes have ended, of which
-    /// one after another is asked for by index until there is none: walk and climbs go in step, a node and then a step of a climb.
+    /// Returns how many inclusive descendants of `top` a walk visits, before it or the climbs from other nodes end. `nodes` gives these by index
+    /// until there is none. Walk and climbs alternate: a node, then a step of a climb.
     ///
-    /// So it costs no more than twice the shorter of the two. Only the time that something takes hangs on the answer, so no clause says it.
+    /// So it costs at most twice the shorter of the two. The result decides only how long something takes, so no clause states it.
     pub fn steps_inside<F: Fn(usize) -> Option<NodeId>>(&self, top: NodeId, nodes: F) -> usize
         requires held { HasNode self.now.forest top }
         requires callable { F.IsAlwaysCallable nodes }

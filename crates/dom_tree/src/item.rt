@@ -1,15 +1,17 @@
-//! What stands in a slot.
+//! The content of a slot.
 
 use crate::node_id::NodeId;
 use dom_kinds::Label;
 use std::marker::Model;
 
-/// The index of a child of which none is known.
+/// The index of a child without a cached one.
 pub const UNKNOWN: u32 = u32::MAX;
 
-/// A node as its slot holds it, with the number that callers know it by.
+/// A node as its slot stores it, with its number for callers.
 ///
-/// `index` is its place among its siblings where it is below the parent's `sure`, the number of first children whose `index` is right. From the parent's `reach` on it is `UNKNOWN`, so that it is not taken for right once `sure` has grown. `owned` is how many nodes have it as their node document, where the tree keeps count of that.
+/// `index` is its index among its siblings if it is below the parent's `sure`, the number of first children whose `index` is right. From the parent's
+/// `reach` on it is `UNKNOWN`, so that it is not used if `sure` grows. `owned` is the number of nodes whose node document it is, if the tree counts
+/// them.
 #[derive(Drop)]
 pub struct Item<X> {
     pub number: NodeId,

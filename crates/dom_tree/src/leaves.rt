@@ -1,4 +1,4 @@
-//! A leaf comes in last under a parent, and each of them is looked up once (DOM Standard, "Mutation algorithms", insert).
+//! The fast path of appending a leaf, with one look-up of each number (DOM Standard, "Mutation algorithms", insert).
 
 ghost use Rattle.std.specs.Prelude.{◌≡◌, ◌⊎◌, true, false, None};
 ghost use Rattle.dom_model.specs.Forests.Forest.{put};
@@ -13,7 +13,7 @@ use crate::tree::Tree;
 use dom_kinds::Kind;
 use dom_links::Link;
 
-// Whether a parent of a kind takes a node of the other as a child, whatever children it has.
+// Returns whether a parent of a kind accepts a child of the other kind, whatever children it has.
 fn takes_leaf(parent: Kind, leaf: Kind) -> bool
     ensures { result ≡ takes_leaf parent leaf }
 {
@@ -24,7 +24,7 @@ fn takes_leaf(parent: Kind, leaf: Kind) -> bool
         )
 }
 
-// Whether a root with no children may come in under a parent with nothing else to ask and nothing else to change.
+// Returns whether a root without children can be appended to a parent without further checks and changes.
 fn is_leaf_for<X>(parent: &At<'_, X>, leaf: &At<'_, X>) -> bool
     requires { leaf.now.tree ≡ parent.now.tree }
     ensures is { result ≡ true → IsLeafFor parent.now.tree.forest parent.now.node leaf.now.node }
@@ -40,9 +40,10 @@ fn is_leaf_for<X>(parent: &At<'_, X>, leaf: &At<'_, X>) -> bool
 }
 
 impl<X> Tree<X> {
-    /// Puts a root with no children last under a parent, and answers whether it did. Each of the two numbers is looked up once.
+    /// Appends a root without children to a parent, and returns whether it did. Looks up each of the two numbers once.
     ///
-    /// It does so where nothing else has to be asked or changed: both are there and have one node document, the parent is an element or a fragment and has no long list of children, and the root is of a kind that such a parent takes. Else nothing has changed, and what may come in is to be asked step by step.
+    /// Fast path: it succeeds only if both exist and have the same node document. The parent must be an element or a fragment without a long list of
+    /// children, and accept the root's kind. On `false` nothing has changed, and the caller has to check step by step.
     #[inline(always)]
     pub fn put_leaf(&mut self, parent: NodeId, leaf: NodeId) -> bool
         ensures leaf { result ≡ true → IsLeafFor self.old.forest parent leaf }

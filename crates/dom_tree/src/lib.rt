@@ -1,4 +1,4 @@
-//! The tree of nodes, told on nested lists and kept in linked slots (DOM Standard, "Trees").
+//! The tree of nodes, in linked slots (DOM Standard, "Trees"). Its view in contracts is a list of nested nodes.
 #![tactic(auto)]
 
 mod at;

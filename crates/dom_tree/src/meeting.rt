@@ -1,4 +1,4 @@
-//! Where the ways up from two nodes meet (DOM Standard, "Trees", "Ranges").
+//! The meeting of the paths from two nodes to their root (DOM Standard, "Trees", "Ranges").
 
 ghost use Rattle.std.specs.Prelude.{◌≡◌, ◌+◌, ◌<◌, length, Some, None};
 ghost use Rattle.dom_model.specs.Forests.Forest.{HasNode, ancestors, root_of};
@@ -9,7 +9,7 @@ use crate::node_id::NodeId;
 use crate::tree::Tree;
 use dom_links::Link;
 
-/// The deepest node on the ways up from two nodes, and its child on the way to each; none where the way begins there.
+/// The deepest node on the paths from two nodes to the root, and its child on each path; none for a path that begins there.
 #[derive(Clone, Copy, Debug)]
 pub struct Meeting {
     pub node: NodeId,
@@ -17,14 +17,14 @@ pub struct Meeting {
     pub second: Option<NodeId>,
 }
 
-/// A node that a way up has come to, and its child through which it came; none where the way begins there.
+/// A node on a path to the root, and its child on the path; none if the path begins there.
 #[derive(Clone, Copy)]
 struct Step {
     node: NodeId,
     child: Option<NodeId>,
 }
 
-/// A node, and its children on the ways up from two others.
+/// A node, and its children on the paths from two other nodes.
 #[derive(Clone, Copy)]
 struct Fork {
     node: NodeId,
@@ -33,7 +33,7 @@ struct Fork {
 }
 
 impl<X> Tree<X> {
-    /// Where the ways up from two nodes of one root meet.
+    /// Returns where the paths from two nodes of one root meet.
     pub fn meeting(&self, a: NodeId, b: NodeId) -> Meeting
         requires a_held { HasNode self.now.forest a }
         requires b_held { HasNode self.now.forest b }
@@ -68,7 +68,7 @@ impl<X> Tree<X> {
         }
     }
 
-    // How many nodes stand above a node.
+    // Returns the number of ancestors of a node.
     fn depth(&self, id: NodeId) -> u64
         requires { HasNode self.now.forest id }
         ensures { result + 1 ≡ length (ancestors id self.now.forest) }
@@ -85,7 +85,7 @@ impl<X> Tree<X> {
         self.live
     }
 
-    // So many steps up from a node.
+    // Returns the ancestor that is `steps` above a node, with its child on the path.
     fn climbed(&self, id: NodeId, steps: u64) -> Step
         requires held { HasNode self.now.forest id }
         requires within { steps < length (ancestors id self.now.forest) }
@@ -109,7 +109,7 @@ impl<X> Tree<X> {
         }
     }
 
-    // Where the ways up from two nodes of one depth meet, which are not one.
+    // Returns where the paths from two different nodes of the same depth meet.
     fn fork(&self, a: NodeId, b: NodeId) -> Fork
         requires a_held { HasNode self.now.forest a }
         requires b_held { HasNode self.now.forest b }

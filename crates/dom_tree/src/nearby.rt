@@ -1,4 +1,4 @@
-//! From one place to another: what the store's links lead to.
+//! Steps from place to place along the store's links.
 
 ghost use Rattle.std.specs.Prelude.{◌≡◌, Some, option_map};
 ghost use Rattle.std.specs.Option.{ForSome};
@@ -12,10 +12,10 @@ use crate::node_id::NodeId;
 use crate::table::Table;
 use dom_links::{Link, Place, Store};
 
-/// How many siblings are walked over before blocks are asked, or made.
+/// How many siblings a query walks over before it uses or makes blocks.
 pub(crate) const NEAR: usize = 64;
 
-/// The place of a number, where the table has one.
+/// Returns the place of a number, if the table has one.
 pub(crate) fn place_at<X>(links: &Store<Item<X>>, table: &Table, id: NodeId) -> Option<Place>
     requires { ArePlaced links.now table.now.items }
     ensures { Leads links.now result (slot_in (slots_in links.now table.now.items) id) }
@@ -24,7 +24,7 @@ pub(crate) fn place_at<X>(links: &Store<Item<X>>, table: &Table, id: NodeId) -> 
     table.get(id.number() as usize)
 }
 
-/// The place of a number that the table has.
+/// Returns the place of a number that the table has.
 pub(crate) fn place_of<X>(links: &Store<Item<X>>, table: &Table, id: NodeId) -> Place
     requires { IsListed links.now table.now.items id }
     ensures { Leads links.now (Some result) (slot_in (slots_in links.now table.now.items) id) }
@@ -33,7 +33,7 @@ pub(crate) fn place_of<X>(links: &Store<Item<X>>, table: &Table, id: NodeId) -> 
     table.get(id.number() as usize).unwrap()
 }
 
-/// Leads to the place of a number, where there is one.
+/// Returns a link to the place of a number; none for none.
 pub(crate) fn link_to<X>(links: &Store<Item<X>>, table: &Table, id: Option<NodeId>) -> Link
     requires { ForSome id (IsListed links.now table.now.items) }
     ensures { Leads links.now result (slot_for (slots_in links.now table.now.items) id) }
@@ -44,7 +44,7 @@ pub(crate) fn link_to<X>(links: &Store<Item<X>>, table: &Table, id: Option<NodeI
     }
 }
 
-/// The number of the node at a place.
+/// Returns the number of the node at a place.
 pub(crate) fn number_of<X>(links: &Store<Item<X>>, place: Place) -> NodeId
     requires { IsPlaced links.now place }
     ensures { result ≡ called links.now place }
@@ -52,7 +52,7 @@ pub(crate) fn number_of<X>(links: &Store<Item<X>>, place: Place) -> NodeId
     links.value(place).number
 }
 
-/// The number of the node that a link leads to.
+/// Returns the number of the node that a link leads to, if any.
 pub(crate) fn named<X>(links: &Store<Item<X>>, link: Link) -> Option<NodeId>
     requires { ForSome link (IsPlaced links.now) }
     ensures { result ≡ option_map (called links.now) link }
@@ -63,7 +63,7 @@ pub(crate) fn named<X>(links: &Store<Item<X>>, link: Link) -> Option<NodeId>
     }
 }
 
-/// The place of the parent.
+/// Returns the place of the parent.
 pub(crate) fn parent<X>(links: &Store<Item<X>>, place: Place) -> Option<Place>
     requires { IsPlaced links.now place }
     ensures { Leads links.now result (parent_at links.now place) }
@@ -71,7 +71,7 @@ pub(crate) fn parent<X>(links: &Store<Item<X>>, place: Place) -> Option<Place>
     links.parent(place).get()
 }
 
-/// The place of the first child.
+/// Returns the place of the first child.
 pub(crate) fn first<X>(links: &Store<Item<X>>, place: Place) -> Option<Place>
     requires { IsPlaced links.now place }
     ensures { Leads links.now result (head_of (children_at links.now place)) }
@@ -79,7 +79,7 @@ pub(crate) fn first<X>(links: &Store<Item<X>>, place: Place) -> Option<Place>
     links.first(place).get()
 }
 
-/// The place of the last child.
+/// Returns the place of the last child.
 pub(crate) fn last<X>(links: &Store<Item<X>>, place: Place) -> Option<Place>
     requires { IsPlaced links.now place }
     ensures { Leads links.now result (last_of (children_at links.now place)) }
@@ -87,7 +87,7 @@ pub(crate) fn last<X>(links: &Store<Item<X>>, place: Place) -> Option<Place>
     links.last(place).get()
 }
 
-/// The place of the next sibling.
+/// Returns the place of the next sibling.
 pub(crate) fn next<X>(links: &Store<Item<X>>, place: Place) -> Option<Place>
     requires { IsPlaced links.now place }
     ensures { Leads links.now result (next_at links.now place) }
@@ -95,7 +95,7 @@ pub(crate) fn next<X>(links: &Store<Item<X>>, place: Place) -> Option<Place>
     links.next(place).get()
 }
 
-/// The place of the previous sibling.
+/// Returns the place of the previous sibling.
 pub(crate) fn prev<X>(links: &Store<Item<X>>, place: Place) -> Option<Place>
     requires { IsPlaced links.now place }
     ensures { Leads links.now result (previous_at links.now place) }

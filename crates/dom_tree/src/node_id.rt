@@ -1,4 +1,4 @@
-//! The number of a node.
+//! Numbers of nodes.
 
 use dom_ids::Id;
 
@@ -6,5 +6,5 @@ use dom_ids::Id;
 #[derive(Clone, Copy, Debug, PartialEq, Eq, Hash, Drop)]
 pub struct OfNode;
 
-/// The number by which callers name a node: the first that is made has 0, and no number is used again.
+/// The number of a node, for callers. The first node made gets 0, and no number is reused.
 pub type NodeId = Id<OfNode>;

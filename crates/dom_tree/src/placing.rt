@@ -1,4 +1,4 @@
-//! A root comes in among a parent's children, by places (DOM Standard, "Mutation algorithms", insert).
+//! Inserting a root by places (DOM Standard, "Mutation algorithms", insert).
 
 ghost use Rattle.std.specs.Prelude.{◌≡◌};
 ghost use Rattle.std.specs.Option.{ForSome};
@@ -16,7 +16,7 @@ use crate::tallying::tallied_put;
 use crate::upkeep::number_put;
 use dom_links::{Link, Place, Store};
 
-/// Puts a root among a parent's children, just before one of them or last, and keeps right what is counted of them. It takes no memory.
+/// Inserts a root into a parent's children before one of them, or as the last, and updates the caches and counts. It takes no memory.
 #[inline(always)]
 pub(crate) fn put_at<X>(
     links: &mut Store<Item<X>>,

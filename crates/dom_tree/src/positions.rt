@@ -8,7 +8,7 @@ use crate::node_id::NodeId;
 use crate::tree::Tree;
 
 impl<X> Tree<X> {
-    /// The child at an index. It walks from the nearer end, or from a child of the block in which it stands.
+    /// Returns the child at an index. Walks from the nearer end, or from a child in the same block.
     pub fn child_at(&self, id: NodeId, index: usize) -> Option<NodeId>
         requires { HasNode self.now.forest id }
         ensures { result ≡ slice_get (children_of self.now.forest id) index }
@@ -29,7 +29,7 @@ impl<X> Tree<X> {
         self.child_from_last(id, behind)
     }
 
-    // The child at an index, where one that stood near it is still a child, and its index is known.
+    // Returns the child at an index, if a node that was near it is still a child and has a cached index.
     fn child_in_block(&self, id: NodeId, index: usize) -> Option<NodeId>
         requires { HasNode self.now.forest id }
         ensures { IfSome result (λ child. Some child
@@ -44,7 +44,7 @@ impl<X> Tree<X> {
         self.child_before(id, near, from, from - index)
     }
 
-    // A child that stood near the one at an index, where it is still a child.
+    // Returns a node that was near the child at an index, if it is still a child.
     fn near_in_block(&self, id: NodeId, index: usize) -> Option<NodeId>
         requires { HasNode self.now.forest id }
         ensures { IfSome result (λ near. parent_of self.now.forest near ≡ Some id) }
@@ -57,7 +57,7 @@ impl<X> Tree<X> {
         None
     }
 
-    // The child so many steps after one at an index.
+    // Returns the child that is `steps` after the child at an index.
     fn child_after(&self, id: NodeId, child: NodeId, index: usize, steps: usize) -> Option<NodeId>
         requires held { HasNode self.now.forest id }
         requires child { slice_get (children_of self.now.forest id) index ≡ Some child }
@@ -73,7 +73,7 @@ impl<X> Tree<X> {
         Some(number_of(&self.links, here))
     }
 
-    // The child so many steps before one at an index.
+    // Returns the child that is `steps` before the child at an index.
     fn child_before(&self, id: NodeId, child: NodeId, index: usize, steps: usize) -> Option<NodeId>
         requires held { HasNode self.now.forest id }
         requires child { slice_get (children_of self.now.forest id) index ≡ Some child }
@@ -90,7 +90,7 @@ impl<X> Tree<X> {
         Some(number_of(&self.links, here))
     }
 
-    // The child so many steps after the first.
+    // Returns the child that is `steps` after the first.
     fn child_from_first(&self, id: NodeId, steps: usize) -> Option<NodeId>
         requires { HasNode self.now.forest id }
         ensures { result ≡ slice_get (children_of self.now.forest id) steps }
@@ -104,7 +104,7 @@ impl<X> Tree<X> {
         Some(number_of(&self.links, child))
     }
 
-    // The child so many steps before the last.
+    // Returns the child that is `steps` before the last.
     fn child_from_last(&self, id: NodeId, steps: usize) -> Option<NodeId>
         requires held { HasNode self.now.forest id }
         requires within { steps < length (children_of self.now.forest id) }

@@ -3,10 +3,10 @@
 use dom_links::{Link, Place};
 use dom_pages::{Cell, Pages};
 
-/// By number the place of a node.
+/// The places of nodes by number.
 pub(crate) type Table = Pages<Place, PlaceCell>;
 
-/// The place of a node, or none for a number whose node went. It is kept as a link, in eight bytes: none is null.
+/// The place of a node, or none for a number whose node was freed. It is a link of eight bytes: none is null.
 #[derive(Clone, Copy)]
 pub(crate) struct PlaceCell {
     link: Link,

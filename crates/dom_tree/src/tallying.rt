@@ -1,4 +1,4 @@
-//! How the counts of elements and doctypes among the children of a Document stay right, in the same time at any number of siblings.
+//! Updates the tallies of Documents, in constant time.
 
 ghost use Rattle.std.specs.Prelude.{◌≡◌, ℕ, None};
 ghost use Rattle.dom_model.specs.declared.Kind.{Kind};
@@ -9,12 +9,12 @@ ghost use Rattle.dom_tree.specs.Slots.{nodes_alone};
 ghost use Rattle.dom_tree.specs.Tallies.{tally_in, tally_but, has_in, tally_put, tally_cut, AreTallied};
 
 use crate::item::Item;
-use crate::nearby;
+use crate::nearby::{self, number_of};
 use crate::tallies::Tallies;
 use dom_kinds::Kind;
 use dom_links::{Place, Store};
 
-// The kind of the node at a place.
+// Returns the kind of the node at a place.
 fn kind_at<X>(links: &Store<Item<X>>, place: Place) -> Kind
     requires { IsPlaced links.now place }
     ensures { (kind : Kind) → has_in (entry_at (nodes_alone links.now.arena))
@@ -23,7 +23,7 @@ fn kind_at<X>(links: &Store<Item<X>>, place: Place) -> Kind
     links.value(place).label.kind
 }
 
-/// Counts a child that is about to come in under a parent.
+/// Counts a child that is about to be inserted under a parent.
 pub(crate) fn tallied_put<X>(
     links: &Store<Item<X>>,
     tallies: &mut Tallies,
@@ -38,11 +38,13 @@ pub(crate) fn tallied_put<X>(
         (slot_of links.now child) p }
 {
     if kind_at(links, parent) == Kind::Document {
-        tallies.raise(links.slot(parent), kind_at(links, child));
+        let kind = kind_at(links, child);
+        tallies.note(links.slot(parent), kind, number_of(links, child));
+        tallies.raise(links.slot(parent), kind);
     }
 }
 
-/// Counts a child that is about to be cut.
+/// Counts out a child that is about to be removed.
 pub(crate) fn tallied_cut<X>(links: &Store<Item<X>>, tallies: &mut Tallies, child: Place)
     requires placed { IsPlaced links.now child }
     requires has_parent { HasParent links.now child }
@@ -57,7 +59,7 @@ pub(crate) fn tallied_cut<X>(links: &Store<Item<X>>, tallies: &mut Tallies, chil
     }
 }
 
-/// Lets go of what is counted for a node that is about to be taken out.
+/// Removes the tally of a node that is about to be freed.
 pub(crate) fn tallied_take<X>(links: &Store<Item<X>>, tallies: &mut Tallies, place: Place)
     requires placed { IsPlaced links.now place }
     requires tallied { AreTallied (entry_at (nodes_alone links.now.arena)) tallies.old }

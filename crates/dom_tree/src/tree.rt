@@ -1,4 +1,4 @@
-//! The tree: making nodes, reading them, and changing where they stand.
+//! The tree: making and reading nodes, and inserting and removing them.
 
 ghost use Rattle.std.specs.Prelude.{◌≡◌, ◌+◌, ◌<◌, length, Some, None, IsSome, is_some, unwrap_or, IfSome, IfOk, OnOk, OnErr, false};
 ghost use Rattle.std.specs.Borrow.{sem};
@@ -25,9 +25,10 @@ use dom_pages::Pages;
 use std::alloc::{AllocError, Global};
 use std::marker::Model;
 
-/// A forest of nodes, each a root or among the children of one parent. A node keeps its number wherever it stands.
+/// A forest of nodes, each a root or a child of one parent. A node keeps its number wherever it is.
 ///
-/// `blocks` are those in which the children of long lists stand. `tallies` has for Documents how many elements and doctypes stand among their children. `strays` is set, for good, where a node document may be no node of the tree. Until then each node's `owned` is right.
+/// `blocks` are the blocks of long lists of children. `tallies` has the number of elements and of doctypes among the children of each Document.
+/// `strays` is set for good once a node document may not be a node of the tree. Until then each node's `owned` is right.
 #[derive(Drop)]
 pub struct Tree<X> {
     pub(crate) links: Store<Item<X>>,
@@ -58,7 +59,7 @@ impl<X> Model for Tree<X> {
     ghost invariant = { λ t. IsSeated t.links t.table.items t.live t.strays t.blocks t.tallies };
 }
 
-// The body of the node at a place.
+// Borrows the body of the node at a place mutably.
 fn body_in<X>(links: &mut Store<Item<X>>, place: Place) -> &mut X
     requires { IsPlaced links.old place }
     ensures* writes_back { sem 𝓛 (lends_item_body X.row links.entry place result) }
@@ -69,7 +70,7 @@ fn body_in<X>(links: &mut Store<Item<X>>, place: Place) -> &mut X
 }
 
 impl<X: Drop> Tree<X> {
-    /// Makes a root with no children, in the given document or, where there is none, in itself.
+    /// Makes a root without children. Its node document is the given one, or itself if none is given.
     pub fn make(
         &mut self,
         label: Label,
@@ -96,7 +97,7 @@ impl<X: Drop> Tree<X> {
         Ok(id)
     }
 
-    // Makes a root with no children, in itself.
+    // Makes a root without children that is its own node document.
     fn make_alone(&mut self, label: Label, body: X) -> Result<NodeId, AllocError>
         requires room { self.old.made < 4294967295 }
         ensures number { IfOk result (λ id. id ≡ self.old.made) }
@@ -141,7 +142,7 @@ impl<X: Drop> Tree<X> {
 impl<X> Tree<X> {
     ghost use Rattle.dom_tree.specs.Lends.{lends_body};
 
-    /// A tree with no node.
+    /// Returns a tree without nodes. It takes no memory.
     pub fn new(alloc: Global) -> Tree<X>
         ensures { result ≡ record { forest = empty; made = 0 } }
     {
@@ -155,35 +156,35 @@ impl<X> Tree<X> {
         }
     }
 
-    /// How many nodes were ever made.
+    /// Returns how many nodes were ever made.
     pub fn made(&self) -> u64
         ensures { result ≡ self.now.made }
     {
         self.table.len() as u64
     }
 
-    /// How many nodes there are.
+    /// Returns the number of nodes.
     pub fn live(&self) -> u64
         ensures { result ≡ size self.now.forest }
     {
         self.live
     }
 
-    /// Whether there is such a node.
+    /// Returns whether a node exists.
     pub fn holds(&self, id: NodeId) -> bool
         ensures { result ≡ is_some (entry_in self.now.forest id) }
     {
         self.table.get(id.number() as usize).is_some()
     }
 
-    /// A law: what every tree keeps.
+    /// States a law, and does nothing: its contract holds for each tree at any time.
     pub fn sound(&self)
         ensures { IsForest self.now }
     {
         let _ = &self.links;
     }
 
-    /// The label of a node.
+    /// Returns the label of a node.
     pub fn label(&self, id: NodeId) -> &Label
         requires { HasNode self.now.forest id }
         ensures { IfSome (entry_in self.now.forest id) (λ e. result.now ≡ e.value.label) }
@@ -192,7 +193,7 @@ impl<X> Tree<X> {
         &item.label
     }
 
-    /// The data and attributes of a node.
+    /// Borrows the data and attributes of a node.
     pub fn body(&self, id: NodeId) -> &X
         requires { HasNode self.now.forest id }
         ensures { IfSome (entry_in self.now.forest id) (λ e. result.now ≡ e.value.body) }
@@ -201,7 +202,7 @@ impl<X> Tree<X> {
         &item.body
     }
 
-    /// The data and attributes of a node, to be changed.
+    /// Borrows the data and attributes of a node mutably.
     pub fn body_mut(&mut self, id: NodeId) -> &mut X
         requires { HasNode self.old.forest id }
         ensures* writes_back { sem 𝓛 (lends_body X.row self.entry id result) }
@@ -211,7 +212,7 @@ impl<X> Tree<X> {
         body_in(&mut self.links, place)
     }
 
-    /// The node document.
+    /// Returns the node document (DOM Standard, "Interface Node").
     pub fn document_of(&self, id: NodeId) -> NodeId
         requires { HasNode self.now.forest id }
         ensures { IfSome (entry_in self.now.forest id) (λ e. result ≡ e.value.document) }
@@ -220,7 +221,7 @@ impl<X> Tree<X> {
         item.document
     }
 
-    /// The parent; none for a root.
+    /// Returns the parent; none for a root.
     pub fn parent(&self, id: NodeId) -> Option<NodeId>
         requires { HasNode self.now.forest id }
         ensures { result ≡ parent_of self.now.forest id }
@@ -230,7 +231,7 @@ impl<X> Tree<X> {
         named(&self.links, self.links.parent(place))
     }
 
-    /// The first child.
+    /// Returns the first child.
     pub fn first(&self, id: NodeId) -> Option<NodeId>
         requires { HasNode self.now.forest id }
         ensures { result ≡ head_of (children_of self.now.forest id) }
@@ -240,7 +241,7 @@ impl<X> Tree<X> {
         named(&self.links, self.links.first(place))
     }
 
-    /// The last child.
+    /// Returns the last child.
     pub fn last(&self, id: NodeId) -> Option<NodeId>
         requires { HasNode self.now.forest id }
         ensures { result ≡ last_of (children_of self.now.forest id) }
@@ -250,7 +251,7 @@ impl<X> Tree<X> {
         named(&self.links, self.links.last(place))
     }
 
-    /// The next sibling; none for a root.
+    /// Returns the next sibling; none for a root.
     pub fn next(&self, id: NodeId) -> Option<NodeId>
         requires { HasNode self.now.forest id }
         ensures { result ≡ next_of self.now.forest id }
@@ -260,7 +261,7 @@ impl<X> Tree<X> {
         named(&self.links, self.links.next(place))
     }
 
-    /// The previous sibling; none for a root.
+    /// Returns the previous sibling; none for a root.
     pub fn prev(&self, id: NodeId) -> Option<NodeId>
         requires { HasNode self.now.forest id }
         ensures { result ≡ previous_of self.now.forest id }
@@ -270,7 +271,7 @@ impl<X> Tree<X> {
         named(&self.links, self.links.prev(place))
     }
 
-    /// How many children there are.
+    /// Returns the number of children.
     pub fn count(&self, id: NodeId) -> usize
         requires { HasNode self.now.forest id }
         ensures { result ≡ length (children_of self.now.forest id) }
@@ -279,7 +280,7 @@ impl<X> Tree<X> {
         self.links.count(place) as usize
     }
 
-    /// Puts a root among a parent's children, just before one of them or last.
+    /// Inserts a root into a parent's children before one of them, or as the last.
     #[inline(always)]
     pub fn put(&mut self, parent: NodeId, child: NodeId, before: Option<NodeId>)
         requires parent_held { HasNode self.old.forest parent }
@@ -304,7 +305,7 @@ impl<X> Tree<X> {
         );
     }
 
-    /// Takes a child from its parent: it becomes a root, with all that stands under it.
+    /// Removes a child from its parent. It becomes a root with all its descendants.
     pub fn cut(&mut self, child: NodeId)
         requires { IsSome (parent_of self.old.forest child) }
         ensures { self.new ≡ record self.old { forest = cut child self.old.forest } }

@@ -1,4 +1,4 @@
-//! How the kept indices stay right, in the same time at any number of siblings.
+//! Updates the cached indices, in constant time.
 
 ghost use Rattle.std.specs.Prelude.{◌≡◌, ◌-◌, ◌^◌, ◌<◌, ◌≤◌, Some, IsSome, length, slice_get};
 ghost use Rattle.std.specs.Option.{ForSome};
@@ -13,7 +13,7 @@ use crate::item::{Item, UNKNOWN};
 use crate::nearby;
 use dom_links::{Link, Place, Store};
 
-/// Sets the kept index of a node.
+/// Sets the cached index of a node.
 pub(crate) fn set_index<X>(links: &mut Store<Item<X>>, place: Place, index: u32)
     requires { IsPlaced links.old place }
     ensures { links.new ≡ with_arena (indexed links.old.arena (slot_of links.old place) index)
@@ -34,7 +34,7 @@ pub(crate) fn set_sure<X>(links: &mut Store<Item<X>>, place: Place, sure: u32, r
     item.reach = reach;
 }
 
-/// How many of a node's first children have a right index.
+/// Returns how many of a node's first children have a right index.
 pub(crate) fn sure_of<X>(links: &Store<Item<X>>, place: Place) -> u32
     requires { IsPlaced links.now place }
     ensures { result ≡ sure_in (entry_behind links.now place) }
@@ -42,7 +42,7 @@ pub(crate) fn sure_of<X>(links: &Store<Item<X>>, place: Place) -> u32
     links.value(place).sure
 }
 
-/// A node's kept index.
+/// Returns the cached index of a node.
 pub(crate) fn index_of<X>(links: &Store<Item<X>>, place: Place) -> u32
     requires { IsPlaced links.now place }
     ensures { result ≡ index_in (entry_behind links.now place) }
@@ -50,7 +50,7 @@ pub(crate) fn index_of<X>(links: &Store<Item<X>>, place: Place) -> u32
     links.value(place).index
 }
 
-/// How many of a node's first children may have an index.
+/// Returns how many of a node's first children may have an index.
 pub(crate) fn reach_of<X>(links: &Store<Item<X>>, place: Place) -> u32
     requires { IsPlaced links.now place }
     ensures { result ≡ reach_in (entry_behind links.now place) }
@@ -58,7 +58,7 @@ pub(crate) fn reach_of<X>(links: &Store<Item<X>>, place: Place) -> u32
     links.value(place).reach
 }
 
-// Whether the last child stands behind all that have an index.
+// Returns whether the last child is behind all children with an index.
 fn is_beyond<X>(links: &Store<Item<X>>, parent: Place) -> bool
     requires parent_placed { IsPlaced links.now parent }
     requires child { 0 < length (children_at links.now parent) }
@@ -68,7 +68,7 @@ fn is_beyond<X>(links: &Store<Item<X>>, parent: Place) -> bool
     sure_of(links, parent) < last && reach_of(links, parent) < last
 }
 
-// The index that a new child gets: that of the child behind it, or the last, which is unknown where those ahead of it are.
+// Returns the index of a new child: that of the next child, or the last index. It is unknown if the children before it have none.
 fn new_index<X>(links: &Store<Item<X>>, parent: Place, before: Link) -> u32
     requires parent_placed { IsPlaced links.now parent }
     requires child { 0 < length (children_at links.now parent) }
@@ -83,7 +83,7 @@ fn new_index<X>(links: &Store<Item<X>>, parent: Place, before: Link) -> u32
     }
 }
 
-// How many indices of a parent's children are right with the new child.
+// Returns how many of a parent's children have a right index after the insertion.
 fn new_sure<X>(links: &Store<Item<X>>, parent: Place, before: Link, index: u32) -> u32
     requires parent_placed { IsPlaced links.now parent }
     requires child { 0 < length (children_at links.now parent) }
@@ -98,7 +98,7 @@ fn new_sure<X>(links: &Store<Item<X>>, parent: Place, before: Link, index: u32) 
     index.min(sure)
 }
 
-// How many of a parent's children may have an index with the new child.
+// Returns how many of a parent's children may have an index after the insertion.
 fn new_reach<X>(links: &Store<Item<X>>, parent: Place, before: Link) -> u32
     requires parent_placed { IsPlaced links.now parent }
     requires child { 0 < length (children_at links.now parent) }
@@ -115,7 +115,7 @@ fn new_reach<X>(links: &Store<Item<X>>, parent: Place, before: Link) -> u32
     }
 }
 
-/// Keeps the indices right over a child that has just been put before another, or last.
+/// Updates the indices after a child was inserted before another, or as the last.
 pub(crate) fn number_put<X>(links: &mut Store<Item<X>>, parent: Place, child: Place, before: Link)
     requires parent_placed { IsPlaced links.old parent }
     requires child_placed { IsPlaced links.old child }
@@ -133,7 +133,7 @@ pub(crate) fn number_put<X>(links: &mut Store<Item<X>>, parent: Place, child: Pl
     set_sure(links, parent, sure, reach);
 }
 
-/// Keeps the indices right over a child that is about to be cut.
+/// Updates the indices before a child is removed.
 pub(crate) fn number_cut<X>(links: &mut Store<Item<X>>, child: Place)
     requires placed { IsPlaced links.old child }
     requires has_parent { HasParent links.old child }
@@ -147,7 +147,7 @@ pub(crate) fn number_cut<X>(links: &mut Store<Item<X>>, child: Place)
     set_sure(links, parent, index.min(sure), reach);
 }
 
-// The child so many places ahead of another.
+// Returns the child that is `steps` before another.
 fn child_ahead<X>(links: &Store<Item<X>>, parent: Place, child: Place, steps: u32) -> Place
     requires sound { IsSound links.now.arena }
     requires placed { IsPlaced links.now child }
@@ -164,14 +164,14 @@ fn child_ahead<X>(links: &Store<Item<X>>, parent: Place, child: Place, steps: u3
     here
 }
 
-// The index that is written for a child at a place.
+// Returns the index to write for a child: its place if that is known.
 fn told(known: bool, place: u32) -> u32
     ensures { result ≡ told known place }
 {
     if known { place } else { UNKNOWN }
 }
 
-// Writes the indices of a parent's children from one of them on, which is given with its place, and ahead of another place: that each is at its place, or that none is known.
+// Writes the indices of a parent's children, from a given child and its place until another place: each its place, or all unknown.
 fn write_indices<X>(
     links: &mut Store<Item<X>>,
     parent: Place,
@@ -196,7 +196,8 @@ fn write_indices<X>(
     }
 }
 
-/// Makes the index of a child known, which is given, with those of its siblings ahead of it. Those behind it get none. It goes from the child to the nearest one in front whose index is right, and over those behind that may have one.
+/// Caches the given index of a child, with the indices of its preceding siblings. The siblings after it get none. Walks back to the nearest child
+/// with a right index, and over the children behind that may have one.
 pub(crate) fn number_up_to<X>(links: &mut Store<Item<X>>, parent: Place, child: Place, index: usize)
     requires parent_placed { IsPlaced links.old parent }
     requires child_placed { IsPlaced links.old child }

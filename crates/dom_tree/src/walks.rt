@@ -14,7 +14,7 @@ use crate::tree::Tree;
 use dom_kinds::Kind;
 
 impl<X> Tree<X> {
-    /// The root: the last of the inclusive ancestors.
+    /// Returns the root: the last of the inclusive ancestors.
     pub fn root(&self, id: NodeId) -> NodeId
         requires { HasNode self.now.forest id }
         ensures { Some result ≡ root_of self.now.forest id }
@@ -28,7 +28,7 @@ impl<X> Tree<X> {
         number_of(&self.links, top)
     }
 
-    /// Whether `above` is an inclusive ancestor of `id`.
+    /// Returns whether `above` is an inclusive ancestor of `id`.
     pub fn is_ancestor(&self, above: NodeId, id: NodeId) -> bool
         requires { HasNode self.now.forest id }
         ensures { result ≡ among above (ancestors id self.now.forest) }
@@ -49,7 +49,7 @@ impl<X> Tree<X> {
         true
     }
 
-    /// The node that follows in tree order, among the inclusive descendants of the root.
+    /// Returns the next node in tree order.
     pub fn next_in_order(&self, id: NodeId) -> Option<NodeId>
         requires { HasNode self.now.forest id }
         ensures { IfSome (root_of self.now.forest id) (λ root. result
@@ -72,7 +72,7 @@ impl<X> Tree<X> {
         }
     }
 
-    /// Whether `a` precedes `b` in tree order. Both have one root.
+    /// Returns whether `a` precedes `b` in tree order. Both have the same root.
     pub fn precedes(&self, a: NodeId, b: NodeId) -> bool
         requires a_held { HasNode self.now.forest a }
         requires b_held { HasNode self.now.forest b }
@@ -89,7 +89,9 @@ impl<X> Tree<X> {
         }
     }
 
-    /// Whether `a` comes before `b` among the children of their parent. Where they stand in different blocks these tell it; in one block it asks both indices; else it looks no further than from one to the other.
+    /// Returns whether `a` comes before `b` among the children of their parent.
+    ///
+    /// It compares their blocks if these differ, and their indices if both are in one block. Otherwise it walks at most from one to the other.
     pub fn comes_before(&self, a: NodeId, b: NodeId) -> bool
         requires a_held { HasNode self.now.forest a }
         requires b_held { HasNode self.now.forest b }
@@ -116,7 +118,7 @@ impl<X> Tree<X> {
         self.is_ahead_within(a, b, count).unwrap()
     }
 
-    // Whether one child comes before another, where they stand in different blocks.
+    // Returns whether one child comes before another, if they are in different blocks.
     pub(crate) fn before_by_block(&self, a: NodeId, b: NodeId) -> Option<bool>
         requires a_held { HasNode self.now.forest a }
         requires b_held { HasNode self.now.forest b }
@@ -131,7 +133,7 @@ impl<X> Tree<X> {
         before_by_block(&self.links, &self.blocks, above, a, b)
     }
 
-    // Whether one child comes before another, where both stand in blocks.
+    // Returns whether one child comes before another, if both are in blocks.
     fn before_in_blocks(&self, a: NodeId, b: NodeId) -> Option<bool>
         requires a_held { HasNode self.now.forest a }
         requires b_held { HasNode self.now.forest b }
@@ -143,7 +145,7 @@ impl<X> Tree<X> {
         Some(a_index < b_index)
     }
 
-    // Whether one child comes before another, where the indices of both are known.
+    // Returns whether one child comes before another, if the indices of both are cached.
     pub(crate) fn known_before(&self, a: NodeId, b: NodeId) -> Option<bool>
         requires a_held { HasNode self.now.forest a }
         requires b_held { HasNode self.now.forest b }
@@ -155,7 +157,7 @@ impl<X> Tree<X> {
         Some(a_index < b_index)
     }
 
-    // Whether one child comes before another, where that is found in so many steps from it to both sides.
+    // Returns whether one child comes before another, if a walk of `steps` to both sides finds it.
     pub(crate) fn is_ahead_within(&self, a: NodeId, b: NodeId, steps: usize) -> Option<bool>
         requires a_held { HasNode self.now.forest a }
         requires b_held { HasNode self.now.forest b }
@@ -190,7 +192,7 @@ impl<X> Tree<X> {
         None
     }
 
-    /// The number of preceding siblings of a child that stands in a block.
+    /// Returns the index of a child among its siblings, if it is in a block.
     pub(crate) fn index_in_block(&self, id: NodeId) -> Option<usize>
         requires { HasNode self.now.forest id }
         ensures { IfSome result (λ i. i ≡ index_of self.now.forest id) }
@@ -201,7 +203,7 @@ impl<X> Tree<X> {
         index_in_block(&self.links, &self.blocks, above, place)
     }
 
-    // How many siblings there are, the node itself among them; 0 for a root.
+    // Returns the number of siblings, including the node; 0 for a root.
     fn siblings(&self, id: NodeId) -> usize
         requires { HasNode self.now.forest id }
         ensures { result ≡ length (siblings_in (entry_in self.now.forest) id) }
@@ -213,7 +215,9 @@ impl<X> Tree<X> {
         }
     }
 
-    /// The number of preceding siblings; 0 for a root. It counts to both sides in step, and stops at the nearest preceding one whose index is kept or at the nearer end.
+    /// Returns the index among the siblings; 0 for a root.
+    ///
+    /// Walks to both sides in step, until the nearest preceding sibling with a cached index, or the nearer end.
     pub fn index(&self, id: NodeId) -> usize
         requires { HasNode self.now.forest id }
         ensures { result ≡ index_of self.now.forest id }
@@ -222,7 +226,9 @@ impl<X> Tree<X> {
         self.index_within(id, count).unwrap()
     }
 
-    /// The number of preceding siblings, where it stands in a block, or is found in so many steps to both sides: at the first child, at a preceding sibling whose index is kept, or at the last child; 0 for a root.
+    /// Returns the index among the siblings, if it is in a block or if a walk finds it; 0 for a root.
+    ///
+    /// Walks `steps` to both sides, until the first child, a preceding sibling with a cached index, or the last child.
     pub fn index_within(&self, id: NodeId, steps: usize) -> Option<usize>
         requires { HasNode self.now.forest id }
         ensures counted { IfSome result (λ i. i ≡ index_of self.now.forest id) }
@@ -234,7 +240,7 @@ impl<X> Tree<X> {
         self.index_by_steps(id, steps)
     }
 
-    // The number of preceding siblings, where it is found in so many steps to both sides.
+    // Returns the index among the siblings, if a walk of `steps` to both sides finds it.
     fn index_by_steps(&self, id: NodeId, steps: usize) -> Option<usize>
         requires { HasNode self.now.forest id }
         ensures counted { IfSome result (λ i. i ≡ index_of self.now.forest id) }
@@ -285,7 +291,8 @@ impl<X> Tree<X> {
 }
 
 impl<X: Body> Tree<X> {
-    /// The length of a node: of the data for character data, 0 for a doctype, else the number of children.
+    /// Returns the length of a node (DOM Standard, "Interface Node"): of the data for character data, 0 for a doctype, otherwise the number of
+    /// children.
     pub fn length(&self, id: NodeId) -> usize
         requires { HasNode self.now.forest id }
         ensures { IfSome (entry_in self.now.forest id) (λ e. result ≡ length_of X.length e) }

@@ -1,4 +1,4 @@
-//! Data of nodes and values of attributes: lists of UTF-16 units, as the offsets of the standard count them.
+//! Character data and attribute values, as lists of UTF-16 units. Offsets count units, as in the standard.
 #![tactic(auto)]
 
 ghost use Rattle.std.specs.Prelude.{◌≡◌, ◌-◌, ◌≤◌, [], length, IsTrue, ◌↔◌, IfOk, OnOk, OnErr, option_map, string_bytes};
@@ -11,9 +11,9 @@ mod room;
 mod scan;
 mod shift;
 
-/// A text as its UTF-16 units; lone surrogates may stand in it (Infra, "Strings").
+/// A text as its UTF-16 units. It may contain lone surrogates (Infra, "Strings").
 ///
-/// A contract sees it as the list of its units.
+/// Its view in contracts is the list of its units.
 #[derive(Debug, Drop)]
 pub struct Units {
     units: Vec<u16>,
@@ -30,14 +30,14 @@ impl Model for Units {
 impl Clone for Units {
     ghost is_clone = { λ units copy. copy ≡ units };
 
-    // a copy by the allocator of these units, as the clone of a map's values asks for it
+    // uses this text's own allocator, because the clone of a map of texts takes none
     fn clone(&self) -> Result<Units, AllocError> {
         self.try_clone(*self.units.allocator())
     }
 }
 
 impl Units {
-    /// The empty text.
+    /// Returns an empty text. It takes no memory.
     pub fn new(alloc: Global) -> Units
         ensures { result ≡ [] }
     {
@@ -46,7 +46,7 @@ impl Units {
         }
     }
 
-    /// The units of the text's code points: two for one from U+10000.
+    /// Returns the UTF-16 units of a text: two for a code point from U+10000 on, otherwise one.
     pub fn from_str(alloc: Global, text: &str) -> Result<Units, AllocError>
         ensures { IfOk result (λ units. units ≡ units_of text.now) }
     {
@@ -55,7 +55,7 @@ impl Units {
         Ok(Units { units })
     }
 
-    /// These units, whether well-formed or not.
+    /// Returns a text with a copy of the units, well-formed or not.
     pub fn from_units(alloc: Global, units: &[u16]) -> Result<Units, AllocError>
         ensures { IfOk result (λ copy. copy ≡ units.now) }
     {
@@ -63,28 +63,28 @@ impl Units {
         Ok(Units { units })
     }
 
-    /// The number of units.
+    /// Returns the number of units.
     pub fn len(&self) -> usize
         ensures { result ≡ length self.now }
     {
         self.units.len()
     }
 
-    /// Whether there is no unit.
+    /// Returns whether there are no units.
     pub fn is_empty(&self) -> bool
         ensures { IsTrue result ↔ (self.now ≡ []) }
     {
         self.units.is_empty()
     }
 
-    /// The units.
+    /// Returns the units.
     pub fn units(&self) -> &[u16]
         ensures { result.now ≡ self.now }
     {
         &self.units[..]
     }
 
-    /// `count` units from `at` on ("substring data").
+    /// Returns `count` units from the offset `at` on (DOM Standard, "substring data").
     pub fn slice(&self, at: usize, count: usize) -> &[u16]
         requires within { at ≤ length self.now }
         requires enough { count ≤ length self.now - at }
@@ -93,11 +93,10 @@ impl Units {
         units_within(self.units.as_slice(), at, count)
     }
 
-    /// Puts `added` in place of the `count` units from `at` on ("replace data").
+    /// Replaces `count` units from the offset `at` on by `added` (DOM Standard, "replace data").
     ///
-    /// A text that grows takes memory at most once, before anything moves, and what follows moves
-    /// once. Room past twice the length, and past 32 units, is given back where memory for a smaller
-    /// block is there; and all of it where no unit is left.
+    /// If the text grows, it takes memory at most once, before any unit moves. The units after the replaced ones move once. A buffer for more than
+    /// twice the length and more than 32 units shrinks, if there is memory for a smaller one. The buffer of an empty text is freed.
     pub fn splice(&mut self, at: usize, count: usize, added: &[u16]) -> Result<(), AllocError>
         requires within { at ≤ length self.old }
         requires enough { count ≤ length self.old - at }
@@ -109,21 +108,21 @@ impl Units {
         outcome
     }
 
-    /// Whether each surrogate has its partner.
+    /// Returns whether the units are well-formed: each surrogate has its partner.
     pub fn is_well_formed(&self) -> bool
         ensures { result ≡ is_well_formed_units self.now }
     {
         scan::is_well_formed(self.units.as_slice())
     }
 
-    /// The text, where it is well-formed; `None` where a surrogate has no partner.
+    /// Returns the text as UTF-8; `None` if a surrogate has no partner.
     pub fn to_text(&self, alloc: Global) -> Result<Option<String>, AllocError>
         ensures { IfOk result (λ text. option_map string_bytes text ≡ text_of_units self.now) }
     {
         text_of(alloc, self.units.as_slice())
     }
 
-    /// A copy, in memory of its own.
+    /// Returns a copy in memory of its own.
     pub fn try_clone(&self, alloc: Global) -> Result<Units, AllocError>
         ensures { IfOk result (λ copy. copy ≡ self.now) }
     {
@@ -132,7 +131,7 @@ impl Units {
     }
 }
 
-/// The text of these units, where it is well-formed; `None` where a surrogate has no partner.
+/// Returns the text of the units as UTF-8; `None` if a surrogate has no partner.
 pub fn text_of(alloc: Global, units: &[u16]) -> Result<Option<String>, AllocError>
     ensures { IfOk result (λ text. option_map string_bytes text ≡ text_of_units units.now) }
 {
@@ -140,7 +139,7 @@ pub fn text_of(alloc: Global, units: &[u16]) -> Result<Option<String>, AllocErro
     Ok(text.ok())
 }
 
-/// `count` of these units from `at` on ("substring data").
+/// Returns `count` of the units from the offset `at` on (DOM Standard, "substring data").
 pub fn units_within(units: &[u16], at: usize, count: usize) -> &[u16]
     requires within { at ≤ length units.now }
     requires enough { count ≤ length units.now - at }

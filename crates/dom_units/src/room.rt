@@ -1,16 +1,15 @@
-//! Room that a list of units has no use for any more.
+//! Shrinks the buffer of a list of units that uses little of it.
 ghost use Rattle.std.specs.Prelude.{◌≡◌, IfOk};
 
 use std::alloc::AllocError;
 
-// Room for so many units is kept whatever the length is.
+// A list with units does not shrink if its capacity is at most this.
 const KEPT: usize = 32;
 
-// Gives back the room of an empty list, and of one that fills less than half of it.
+// Shrinks the buffer of an empty list, and of a list that fills less than half of it.
 //
-// The units move into a smaller block, with a quarter of their number to grow into: between two
-// moves so large a part of them comes or goes that many small edits stay cheap. Where that block is
-// refused they stay where they are.
+// The units move into a smaller block, with room for a quarter more. Many small edits stay cheap, because a large part of the units is inserted or
+// removed between two such moves. If there is no memory for the smaller block, the units keep their buffer.
 pub(crate) fn give_back(units: &mut Vec<u16>)
     ensures { units.new.items ≡ units.old.items }
 {
@@ -27,7 +26,7 @@ fn has_too_much(units: &Vec<u16>) -> bool {
     len == 0 || units.capacity() / 2 > len.max(KEPT / 2)
 }
 
-// The units in a block of their length and a quarter.
+// Returns the units in a new block, with room for a quarter more.
 fn moved(units: &Vec<u16>) -> Result<Vec<u16>, AllocError>
     ensures { IfOk result (λ moved. moved.items ≡ units.now.items) }
 {

@@ -1,11 +1,11 @@
-//! Text to units, and whether units are well-formed.
+//! Encodes text as UTF-16 units, and checks whether units are well-formed.
 ghost use Rattle.std.specs.Prelude.{◌≡◌, ◌∷◌, IfOk};
 ghost use Rattle.std.specs.Char.Utf16.{is_low_surrogate, is_high_surrogate};
 ghost use Rattle.dom_model.specs.Forests.Texts.{units_of, is_well_formed_units};
 
 use std::alloc::{AllocError, Global};
 
-// The units of a text. There are at most as many as the text has bytes.
+// Returns the UTF-16 units of a text. There are at most as many as it has bytes.
 pub(crate) fn encode(alloc: Global, text: &str) -> Result<Vec<u16>, AllocError>
     ensures { IfOk result (λ units. units.items ≡ units_of text.now) }
 {
@@ -17,7 +17,7 @@ pub(crate) fn encode(alloc: Global, text: &str) -> Result<Vec<u16>, AllocError>
     Ok(units)
 }
 
-// Whether each surrogate has its partner.
+// Returns whether each surrogate has its partner.
 pub(crate) fn is_well_formed(units: &[u16]) -> bool
     ensures { result ≡ is_well_formed_units units.now }
 {

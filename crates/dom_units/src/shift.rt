@@ -1,10 +1,10 @@
-//! A part of a list replaced, with one move of what follows it.
+//! Replaces a part of a list. The units after it move once.
 ghost use Rattle.std.specs.Prelude.{◌≡◌, ◌-◌, ◌≤◌, vec_len, length, OnOk, OnErr};
 ghost use Rattle.dom_model.specs.Forests.Texts.{spliced};
 
 use std::alloc::AllocError;
 
-// Puts `added` in place of the `count` units from `at` on.
+// Replaces `count` units from the offset `at` on by `added`.
 pub(crate) fn splice(
     units: &mut Vec<u16>,
     at: usize,
@@ -18,7 +18,7 @@ pub(crate) fn splice(
 {
     let end = units.len();
     if count < added.len() {
-        // These only make room: what is moved and what is written stands over them.
+        // Only makes room: the moved and the added units overwrite these.
         units.extend_from_slice(&added[count..])?;
     }
     let after = at + added.len();

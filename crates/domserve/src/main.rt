@@ -1,4 +1,4 @@
-//! The program: it serves standard input to standard output. README and `--help` tell its options.
+//! The program: it serves standard input to standard output. README and `--help` list its options.
 #![tactic(auto)]
 
 mod patient;

@@ -1,4 +1,4 @@
-//! Streams that are not ready yet.
+//! Streams that may not be ready.
 
 ghost use Rattle.std.specs.Prelude.{◌≤◌};
 
@@ -7,7 +7,7 @@ use std::rt::Clock;
 use std::thread;
 use std::time::Duration;
 
-/// A std reader or writer that may be non-blocking: a call for which it is not ready sleeps and is made again.
+/// A reader or writer of std that may be non-blocking. If it is not ready for a call, it sleeps and repeats the call.
 #[derive(Drop)]
 pub struct Patient<C, S> {
     clock: C,
@@ -19,7 +19,7 @@ impl<C: Clock, S> Patient<C, S> {
         Patient { clock, inner }
     }
 
-    /// Sleeps before the next call, after so many for which the stream was not ready: 1 ms at first, and 16 ms later.
+    /// Sleeps before the next call: 1 ms for the first 16 calls for which the stream was not ready, then 16 ms.
     fn pause(&self, calls: u64) {
         let millis = if calls < 16 { 1 } else { 16 };
         thread::sleep(&self.clock, Duration::from_millis(millis));

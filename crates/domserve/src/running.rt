@@ -1,4 +1,4 @@
-//! Serving as the words ask, and the status.
+//! Runs the program with its words, and returns its status.
 
 ghost use Rattle.std.specs.Prelude.{◌≡◌, ◌≢◌, ◌≤◌, [], true, false, None, ◌⊎◌, IfErr, IfOk, IfSome, map, string_bytes};
 ghost use Rattle.std.specs.Io.KnownBytes.{Appends};
@@ -16,14 +16,14 @@ use std::alloc::{AllocError, Global};
 use std::convert::AsStr;
 use std::io::{Error, ErrorKind};
 
-/// The status if nobody reads the output any more: a shell's for a program that the signal SIGPIPE has ended, 128 + 13.
+/// The status if nobody reads the output any longer. It is that of a shell for a program ended by SIGPIPE: 128 + 13.
 const CLOSED_PIPE: u8 = 141;
 
 /// The line for a user at a terminal.
 const HINT: &str =
     "domserve reads one JSON command a line, as [\"createElement\",0,\"p\"]; domserve --help has more, and Ctrl-D ends it";
 
-/// Returns the first words of a fault's message.
+/// Returns the beginning of a fault's message.
 pub fn fault_text(fault: &Fault) -> &'static str
     ensures { result.now ≡ text_of fault.now }
 {
@@ -102,7 +102,7 @@ fn without_number(text: &str) -> &str {
     }
 }
 
-/// Returns a text with the reason behind it.
+/// Returns a text followed by the reason.
 fn message(alloc: Global, text: &str, reason: &Error) -> Result<String, AllocError>
     ensures { IfOk result (λ message. IsBecause text.now (string_bytes message)) }
 {
@@ -113,7 +113,7 @@ fn message(alloc: Global, text: &str, reason: &Error) -> Result<String, AllocErr
     Ok(message)
 }
 
-/// Writes a text on a line of its own, with the reason behind it if there is memory for that.
+/// Writes a text on a line of its own, followed by the reason if there is memory for that.
 fn say_because<E: Sink>(alloc: Global, errors: &mut E, text: &str, reason: &Option<Error>)
     ensures { SaysBecause E.writing text.now reason.now errors.old errors.new }
 {
@@ -138,7 +138,7 @@ fn faulted<E: Sink>(alloc: Global, errors: &mut E, fault: &Fault, reason: Option
     fault_status(fault)
 }
 
-/// Writes that memory has run out, and returns the status.
+/// Writes the out-of-memory message, and returns the status.
 pub(crate) fn without_memory<E: Sink>(alloc: Global, errors: &mut E) -> u8
     ensures status { result ≡ 1 }
     ensures says { SaysFault E.writing errors.old errors.new faults.Memory None }
@@ -200,7 +200,7 @@ fn helped<W: Sink + LastError, E: Sink>(
     }
 }
 
-/// The limits that the words ask for, as the server takes them.
+/// Returns the limits that the words set, as the server's type.
 fn limits_from<S: AsStr>(alloc: Global, words: &[S]) -> Result<Limits, Refusal>
     ensures range { IfOk result (λ limits. IsInRange (bounds_of limits)) }
     ensures asked { IfOk result (λ limits. bounds_of limits ≡ bounds_asked (map S.text words.now)) }
@@ -216,10 +216,15 @@ fn limits_from<S: AsStr>(alloc: Global, words: &[S]) -> Result<Limits, Refusal>
     }
 }
 
-/// Serves the reader to the writer as the words ask, the program's name first, and returns the program's status: 0 at the end
-/// of the input or after help, 1 out of memory, 2 if the words are refused, 3 if a read, a write or a flush failed or the
-/// input was too long, 141 if nobody reads the output any longer. A fault of status 1 or 3 has a message on `errors`. If the
-/// reader is a terminal, a hint is written there first.
+/// Serves the reader to the writer as the words request, and returns the program's status. The first word is the program's name.
+///
+/// - 0: the input ended, or help was written.
+/// - 1: out of memory.
+/// - 2: the words were refused.
+/// - 3: a read, a write or a flush failed, or the input was too long.
+/// - 141: nobody reads the output any longer.
+///
+/// With status 1 or 3, `errors` gets a message. If the reader is a terminal, `errors` gets a hint first.
 pub fn run<S: AsStr, R: Source + LastError, W: Sink + LastError, E: Sink>(
     alloc: Global,
     words: &[S],
@@ -230,39 +235,37 @@ pub fn run<S: AsStr, R: Source + LastError, W: Sink + LastError, E: Sink>(
 ) -> u8
     ensures range { (result ≤ 2) ⊎ IsFailure result }
 
-    // At status 0 the output was written as the words ask, or they ask for help, which was written.
+    // With status 0 the output was written as the words request, or they ask for help, and it was written.
     ensures served { result ≡ 0 →
         IsServedAsAsked R.reading W.writing (map S.text words.now)
         reader.old reader.new writer.old writer.new
         ⊎ IsHelped R.reading W.writing (map S.text words.now)
         reader.old reader.new writer.old writer.new }
 
-    // At status 2 clap finds a mistake in the words, and nothing was read or written.
+    // With status 2 clap finds a mistake in the words, and nothing was read or written.
     ensures refused { result ≡ 2 → (has_mistake (faults_in (map S.text words.now)) ≡ true)
         × (reader.new ≡ reader.old) × (writer.new ≡ writer.old) }
 
-    // At status 3 and 141 clap finds no fault in the words, or they ask for help: a mistake is no
-    // failure of a stream.
+    // With status 3 and 141 clap finds no fault in the words, or they ask for help: a mistake is not a failure of a stream.
     ensures failed { IsFailure result → (faults_in (map S.text words.now) ≡ [])
         ⊎ (asks_for_help (faults_in (map S.text words.now)) ≡ true) }
 
-    // At status 0 nothing was said on `errors`, but for the hint at a terminal.
+    // With status 0 nothing was written to `errors`, except the hint at a terminal.
     ensures silent { result ≡ 0 →
         MayHint E.writing is_terminal HINT.now errors.old errors.new }
 
-    // At status 1, 3 and 141 the program came to one fault of that status. It said the fault's text,
-    // and the reason of the stream that failed; of a closed pipe it said nothing.
+    // With status 1, 3 and 141 one fault of that status happened. `errors` got the fault's text and the reason of the failed stream, or nothing for a
+    // closed pipe.
     ensures told { result ≢ 0 → result ≢ 2 → TellsFault result
         (λ fault. reason_of fault (R.error reader.new) (W.error writer.new))
         (SaysHintAndFault E.writing is_terminal HINT.now errors.old errors.new)
         (CameTo R.reading W.writing (map S.text words.now)
         reader.old reader.new writer.old writer.new) }
 
-    // Unless the status is 3 or 141, all that was written has been passed on.
+    // Unless the status is 3 or 141, all that was written was flushed.
     ensures passed { (IsFailure result → ⊥) → HasPassedOn W.writing writer.old writer.new }
 
-    // After a failed read the status is 3, after a failed write or flush 3 or 141, and nothing is
-    // asked of what failed.
+    // After a failed read the status is 3, after a failed write or flush 3 or 141. The failed stream is not called again.
     ensures reader { TellsFailedRead result (λ failed.
         IsRead R.reading failed reader.old reader.new) }
     ensures writer { TellsFailedWrite result (λ failed.

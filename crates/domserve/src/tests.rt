@@ -13,7 +13,7 @@ const NO_SPACE: i32 = 28;
 
 const BROKEN_PIPE: i32 = 32;
 
-/// A reader that fails by this error number.
+/// A reader that fails with an error number.
 #[derive(Drop)]
 struct FailingReader(i32);
 
@@ -23,7 +23,7 @@ impl Read for FailingReader {
     }
 }
 
-/// A writer that fails by this error number.
+/// A writer that fails with an error number.
 #[derive(Drop)]
 struct FailingWriter(i32);
 
@@ -101,7 +101,7 @@ fn help_that_is_not_written_is_a_fault(rt: HostRuntime) -> Result<(), Fail> {
     Ok(())
 }
 
-/// The status for one option, where nothing is to be read or written.
+/// Returns the status for one option, if nothing is read and written.
 fn status_of(rt: &HostRuntime, option: &str, value: &str) -> Result<u8, Fail> {
     let mut reader = FromRead::new(FailingReader(IS_A_DIRECTORY));
     let mut writer = ToWrite::new(Vec::new(rt.alloc()));
@@ -210,7 +210,7 @@ fn errors_that_are_not_written_are_ignored(rt: HostRuntime) {
     assert_eq!(rt; status, 3);
 }
 
-/// Returns the status at a closed pipe, or 9 if something was said.
+/// Returns the status at a closed pipe, or 9 if a message was written.
 fn status_at_a_closed_pipe(rt: &HostRuntime, words: &[&str]) -> Result<u8, Fail> {
     let mut reader = FromRead::new(&b"\n"[..]);
     let mut writer = ToWrite::new(FailingWriter(BROKEN_PIPE));
@@ -238,7 +238,7 @@ fn a_closed_pipe_is_silent(rt: HostRuntime) -> Result<(), Fail> {
     Ok(())
 }
 
-// Only a write knows of a pipe that nobody reads.
+// Only a write notices that nobody reads a pipe.
 #[test]
 fn a_read_at_a_closed_pipe_has_a_message(rt: HostRuntime) -> Result<(), Fail> {
     let mut reader = FromRead::new(FailingReader(BROKEN_PIPE));
@@ -260,7 +260,7 @@ fn a_read_at_a_closed_pipe_has_a_message(rt: HostRuntime) -> Result<(), Fail> {
     Ok(())
 }
 
-/// Returns how many lines are said at a terminal, or 9 for another status than 0.
+/// Returns the number of lines written at a terminal, or 9 if the status is not 0.
 fn lines_at_a_terminal(rt: &HostRuntime, words: &[&str]) -> Result<usize, Fail> {
     let mut reader = FromRead::new(&b""[..]);
     let mut writer = ToWrite::new(Vec::new(rt.alloc()));
@@ -309,7 +309,7 @@ fn limits_in_plain_words(rt: HostRuntime) -> Result<(), Fail> {
     Ok(())
 }
 
-/// A clock that stands, and sleeps no time.
+/// A clock that always shows zero, so that sleeping takes no time.
 #[derive(Drop)]
 struct NoTime;
 
@@ -323,7 +323,7 @@ impl Clock for NoTime {
     }
 }
 
-/// A stream that is not ready for so many calls, and then fails or works.
+/// A stream that is not ready for some calls, and then fails or works.
 #[derive(Drop)]
 struct NotReady {
     calls: u8,

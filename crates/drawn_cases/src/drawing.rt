@@ -1,10 +1,10 @@
-//! Drawing the token text of a tree, and writing it.
+//! Drawing the token text of a tree, and writing it as letters.
 
 use crate::replies::{Row, Told};
 use crate::tokens::{Ends, Point, Side, Sign, Token, pass};
 use std::alloc::{AllocError, Global};
 
-// Behind a text, the closes of open nodes down to a depth.
+// Appends the closes of open nodes down to a depth.
 fn close_down(text: &mut Vec<Token>, depth: u64, open: u64) -> Result<(), AllocError> {
     for _closed in depth..open {
         text.push(Token::Close)?;
@@ -12,7 +12,7 @@ fn close_down(text: &mut Vec<Token>, depth: u64, open: u64) -> Result<(), AllocE
     Ok(())
 }
 
-/// Puts units behind a text.
+/// Appends units.
 pub(crate) fn push_units(text: &mut Vec<Token>, units: &[u8]) -> Result<(), AllocError> {
     for unit in units {
         text.push(Token::OneUnit(*unit))?;
@@ -20,7 +20,7 @@ pub(crate) fn push_units(text: &mut Vec<Token>, units: &[u8]) -> Result<(), Allo
     Ok(())
 }
 
-// Puts the text of a tree, without markers, behind another.
+// Appends the text of a tree, without markers.
 fn push_tree(text: &mut Vec<Token>, rows: &[Row]) -> Result<(), AllocError> {
     let mut open = 0;
     for row in rows {
@@ -32,7 +32,7 @@ fn push_tree(text: &mut Vec<Token>, rows: &[Row]) -> Result<(), AllocError> {
     close_down(text, 0, open)
 }
 
-// Markers of one gap stand by the numbers of their ranges, and of one range the start comes first.
+// Appends the markers of one gap: in the order of their ranges, and for each range the start before the end.
 fn push_marks(text: &mut Vec<Token>, point: Point, ranges: &[Ends]) -> Result<(), AllocError> {
     for (range, ends) in ranges.iter().enumerate() {
         if ends.start == point {
@@ -45,7 +45,7 @@ fn push_marks(text: &mut Vec<Token>, point: Point, ranges: &[Ends]) -> Result<()
     Ok(())
 }
 
-// Puts a token of a tree behind a text, and ahead of it the markers of the gap that the walk has come to.
+// Appends a token of a tree, and before it the markers of the current gap.
 fn push_marked(
     text: &mut Vec<Token>,
     here: &mut Vec<Point>,
@@ -60,7 +60,7 @@ fn push_marked(
     pass(here, token)
 }
 
-// The tokens of a tree, with a marker for each end.
+// Returns the tokens of a tree, with a marker for each end.
 fn marked(alloc: Global, tree: &[Token], ranges: &[Ends]) -> Result<Vec<Token>, AllocError> {
     let mut text = Vec::new(alloc);
     let mut here = Vec::new(alloc);
@@ -70,7 +70,7 @@ fn marked(alloc: Global, tree: &[Token], ranges: &[Ends]) -> Result<Vec<Token>, 
     Ok(text)
 }
 
-/// The text of a tree, with a marker for each end.
+/// Returns the text of a tree, with a marker for each end.
 pub(crate) fn draw(alloc: Global, told: &Told) -> Result<Vec<Token>, AllocError> {
     let mut tree = Vec::new(alloc);
     push_tree(&mut tree, told.rows.as_slice())?;
@@ -99,7 +99,7 @@ fn close_written(letters: &mut String, sign: Sign) -> Result<(), AllocError> {
     }
 }
 
-// Writes a token, where these signs are open.
+// Writes a token, and updates the open signs.
 fn write_token(letters: &mut String, open: &mut Vec<Sign>, token: Token) -> Result<(), AllocError> {
     match token {
         Token::Open(_, sign) => {
@@ -116,7 +116,7 @@ fn write_token(letters: &mut String, open: &mut Vec<Sign>, token: Token) -> Resu
     }
 }
 
-/// A text as it is read.
+/// Returns a text as letters.
 pub(crate) fn written(alloc: Global, text: &[Token]) -> Result<String, AllocError> {
     let mut letters = String::new(alloc);
     let mut open = Vec::new(alloc);

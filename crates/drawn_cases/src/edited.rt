@@ -1,5 +1,7 @@
-//! Token texts, drawn as docs/definitions.md draws them. Each edit is drawn twice, from the replies before and after it and on the text
-//! before it alone: the texts are the same, and each end of a live range stands in its marker's gap.
+//! Token texts, drawn as docs/definitions.md draws them.
+//!
+//! Each edit is drawn twice: from the replies before and after it, and on the text before it alone. The texts are the same, and each end of a live
+//! range is in its marker's gap.
 
 use crate::drawing::{draw, written};
 use crate::edits::{Edit, edited_text, in_order};
@@ -11,7 +13,7 @@ use std::alloc::{AllocError, Global};
 use std::process::Abort;
 use std::test::Fail;
 
-// An edit of a dialogue, after so many lines of its input, and the live ranges that are there; the texts before it and after it.
+// An edit of a dialogue after some lines of its input, the number of live ranges then, and the texts before and after it.
 #[derive(Clone, Copy)]
 struct Case {
     input: &'static [u8],
@@ -22,7 +24,7 @@ struct Case {
     after: &'static str,
 }
 
-// Puts the lines that ask for the tree of the first node and for the live ranges behind others.
+// Appends the lines that query the tree of the first node and the live ranges.
 fn ask(lines: &mut String, ranges: usize) -> Result<(), AllocError> {
     lines.push_str("[\"tree\",1]\n")?;
     for range in 0..ranges {
@@ -31,7 +33,7 @@ fn ask(lines: &mut String, ranges: usize) -> Result<(), AllocError> {
     Ok(())
 }
 
-// Puts the lines of the dialogue up to the edit and with it, and the questions before it and after it, behind others.
+// Appends the lines of the dialogue before the edit, the queries, the edit, and the queries again.
 fn give(lines: &mut Vec<u8>, case: &Case, questions: &str) -> Result<(), AllocError> {
     let front = first_lines(case.input, case.lines);
     let with_edit = first_lines(case.input, case.lines.saturating_add(1));
@@ -42,7 +44,7 @@ fn give(lines: &mut Vec<u8>, case: &Case, questions: &str) -> Result<(), AllocEr
     lines.extend_from_slice(questions.as_bytes())
 }
 
-// These lines alone.
+// Returns the dialogue up to its edit, with the queries before and after the edit.
 fn asked(alloc: Global, case: &Case) -> Result<Vec<u8>, AllocError> {
     let mut questions = String::new(alloc);
     ask(&mut questions, case.ranges)?;
@@ -51,7 +53,7 @@ fn asked(alloc: Global, case: &Case) -> Result<Vec<u8>, AllocError> {
     Ok(lines)
 }
 
-// That each end of a live range stands in its marker's gap.
+// Asserts that each end of a live range is in its marker's gap.
 fn stand_in_gaps(
     rt: &impl Abort,
     alloc: Global,
@@ -69,7 +71,7 @@ fn stand_in_gaps(
     Ok(())
 }
 
-// That what is told is drawn as the text.
+// Asserts that a tree and its ranges are drawn as a text.
 fn is_drawn(rt: &impl Abort, alloc: Global, told: &Told, text: &str) -> Result<(), AllocError> {
     let tokens = draw(alloc, told)?;
     stand_in_gaps(rt, alloc, tokens.as_slice(), told.ranges.as_slice())?;
@@ -78,7 +80,7 @@ fn is_drawn(rt: &impl Abort, alloc: Global, told: &Told, text: &str) -> Result<(
     Ok(())
 }
 
-// That an edited text is, with its markers in order, the text of what is told.
+// Asserts that an edited text, with its markers in order, is the text of a tree and its ranges.
 fn is_text_of(
     rt: &impl Abort,
     alloc: Global,
@@ -92,7 +94,7 @@ fn is_text_of(
     Ok(())
 }
 
-// That a text becomes, edited alone, that of what is told after the edit.
+// Asserts that the edit of a text alone gives the text of the tree after the edit.
 fn is_edited(
     rt: &impl Abort,
     alloc: Global,
@@ -105,7 +107,7 @@ fn is_edited(
     is_text_of(rt, alloc, edited.as_slice(), after, case.after)
 }
 
-// That what is told before the edit and after it is drawn as it is due, and that the first text becomes the second.
+// Asserts the texts before and after the edit, and that the edit of the first text gives the second.
 fn are_as_due(
     rt: &impl Abort,
     alloc: Global,
@@ -119,7 +121,7 @@ fn are_as_due(
     is_edited(rt, alloc, case, text.as_slice(), after)
 }
 
-// That the replies tell this.
+// Asserts that the replies give the expected texts.
 fn tell_as_due(rt: &impl Abort, alloc: Global, case: &Case, replies: &[u8]) -> Result<(), Fail> {
     let replies = str::from_utf8(replies)?;
     let behind = case.lines.saturating_add(case.ranges).saturating_add(2);

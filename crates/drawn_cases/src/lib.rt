@@ -1,4 +1,4 @@
-//! The tests of token texts: drawn from the replies before and after an edit, and on the text alone.
+//! The tests of token texts: drawn from the replies before and after an edit, and edited as texts alone.
 #![tactic(auto)]
 
 #[cfg(test)]

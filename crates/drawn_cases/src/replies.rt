@@ -1,11 +1,11 @@
-//! The tree and the live ranges that replies tell.
+//! The tree and the live ranges that replies contain.
 
 use crate::tokens::{Ends, Point, Sign};
 use serde_json::Value;
 use std::alloc::Global;
 use std::test::Fail;
 
-/// A node as a reply tells it; its data is ASCII.
+/// A node of a reply. Its data is ASCII.
 #[derive(Drop)]
 pub struct Row {
     pub depth: u64,
@@ -14,7 +14,7 @@ pub struct Row {
     pub units: Vec<u8>,
 }
 
-/// A tree and the live ranges, as replies tell them.
+/// A tree and its live ranges, from replies.
 #[derive(Drop)]
 pub struct Told {
     pub rows: Vec<Row>,
@@ -33,7 +33,7 @@ fn text_at(items: &Value, place: usize) -> Result<&str, Fail> {
 
 const ELEMENT: u64 = 1;
 
-// An element has a tag, and a node with data quotes.
+// Returns the sign of a node: a tag for an element, quotes for a node with data.
 fn sign_in(row: &Value) -> Result<Sign, Fail> {
     if number_at(row, 2)? != ELEMENT {
         return Ok(Sign::Quotes);
@@ -44,7 +44,7 @@ fn sign_in(row: &Value) -> Result<Sign, Fail> {
     }
 }
 
-// A row of a tree: depth, number, kind, name, and attributes or data.
+// Returns a row of a tree: depth, number, kind, name, and attributes or data.
 fn row_in(alloc: Global, row: &Value) -> Result<Row, Fail> {
     let sign = sign_in(row)?;
     let data = match sign {
@@ -81,7 +81,7 @@ fn ends_in(reply: &Value) -> Result<Ends, Fail> {
 }
 
 impl Told {
-    // Takes a reply: the first one tells the tree, each other a live range.
+    // Reads a reply: the first one is the tree, each other a live range.
     fn take(&mut self, alloc: Global, place: usize, line: &str) -> Result<(), Fail> {
         let reply = Value::from_str(alloc, line)?;
         if place == 0 {
@@ -92,7 +92,7 @@ impl Told {
     }
 }
 
-/// What the replies from a line on tell: one a tree, and each of so many after it a live range.
+/// Returns the tree and the live ranges of the replies from a line on. The first reply is the tree, and a count of others the ranges.
 pub(crate) fn told_from(
     alloc: Global,
     replies: &str,

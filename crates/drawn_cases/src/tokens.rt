@@ -1,4 +1,4 @@
-//! The tokens of a drawn text, and where its gaps are.
+//! The tokens of a drawn text, and its gaps.
 
 ghost use Rattle.std.specs.Prelude.{◌≤◌, length, IfOk};
 
@@ -18,7 +18,7 @@ pub struct Ends {
     pub end: Point,
 }
 
-/// What a node opens and closes with: a tag of one letter, or quotes.
+/// The sign around a node: a tag of one letter, or quotes.
 #[derive(Clone, Copy, PartialEq, Eq)]
 pub enum Sign {
     Tag(u8),
@@ -28,22 +28,22 @@ pub enum Sign {
 /// A token of a text.
 #[derive(Clone, Copy, PartialEq, Eq)]
 pub enum Token {
-    /// With the number of the node.
+    /// The number of the node.
     Open(u64, Sign),
     Close,
     OneUnit(u8),
-    /// With the number of the live range.
+    /// The number of the live range.
     Mark(usize, Side),
 }
 
-/// Which end of a live range.
+/// The start or the end of a live range.
 #[derive(Clone, Copy, PartialEq, Eq)]
 pub enum Side {
     Start,
     End,
 }
 
-// Walking a text: the point that the walk has come to in the innermost open node, and in each around it.
+// A walk over a text has a point in the innermost open node, and in each node around it.
 
 fn step(here: &mut Vec<Point>) {
     if let Some(point) = here.last_mut() {
@@ -51,7 +51,7 @@ fn step(here: &mut Vec<Point>) {
     }
 }
 
-/// Where the walk has come to past the token.
+/// Moves the walk past a token.
 pub(crate) fn pass(here: &mut Vec<Point>, token: Token) -> Result<(), AllocError> {
     match token {
         Token::Open(node, _) => here.push(Point { node, offset: 0 })?,
@@ -65,7 +65,7 @@ pub(crate) fn pass(here: &mut Vec<Point>, token: Token) -> Result<(), AllocError
     Ok(())
 }
 
-/// The gap of a marker, as a point.
+/// Returns the gap of a marker, as a point.
 pub(crate) fn gap_of(
     alloc: Global,
     text: &[Token],
@@ -81,7 +81,7 @@ pub(crate) fn gap_of(
     Ok(None)
 }
 
-/// How many tokens are ahead of the point's gap.
+/// Returns the number of tokens before a point's gap.
 pub(crate) fn ahead_of(alloc: Global, text: &[Token], point: Point) -> Result<usize, AllocError>
     ensures { IfOk result (λ ahead. ahead ≤ length text.now) }
 {

@@ -1,4 +1,4 @@
-//! Attributes that are set, removed and toggled. Where memory is wanting, they stay as they are.
+//! Attributes that are set, removed and toggled. A call that is out of memory leaves them unchanged.
 
 ghost use Rattle.dom_edit.specs.Whole.{IsWhole};
 
@@ -40,7 +40,7 @@ pub(crate) fn unset(rt: &impl Abort, world: &mut World, node: u32, key: &str) ->
     Ok(remove_attribute(world, node, key)?)
 }
 
-/// Adds an attribute of an element or removes it, and compares whether it is there then.
+/// Toggles an attribute of an element, and asserts whether it exists then.
 pub(crate) fn toggle(
     rt: &impl Abort,
     world: &mut World,
@@ -63,7 +63,7 @@ const SET: Call = Call::Change(1, Change::SetAttribute("id", "mn"));
 
 const SET_ANEW: Call = Call::Change(1, Change::SetAttribute("id", "op"));
 
-// An attribute is set, and then set to another value.
+// Sets an attribute, and sets it again to another value.
 const AN_ATTRIBUTE_IS_SET: &[Row] = &[
     Row::Try(SET),
     Row::Then(When::Refused, &[Fact::Held(13), Fact::Attributes(1, 0)]),
@@ -88,7 +88,7 @@ fn an_attribute_is_set(rt: HostRuntime) -> Result<(), Fail> {
 
 const REMOVE: Call = Call::Change(1, Change::RemoveAttribute("id"));
 
-// An attribute is set, and removed.
+// Sets an attribute, and removes it.
 const AN_ATTRIBUTE_IS_REMOVED: &[Row] = &[
     Row::Do(SET),
     Row::Try(REMOVE),
@@ -109,7 +109,7 @@ const ADD_BY_TOGGLING: Call = Call::Change(1, Change::ToggleAttribute("id", true
 
 const REMOVE_BY_TOGGLING: Call = Call::Change(1, Change::ToggleAttribute("id", false));
 
-// An attribute is added with the empty value, and removed.
+// Toggles an attribute twice: it is added with the empty value, and removed.
 const AN_ATTRIBUTE_IS_TOGGLED: &[Row] = &[
     Row::Try(ADD_BY_TOGGLING),
     Row::Then(When::Refused, &[Fact::Attributes(1, 0)]),

@@ -1,4 +1,4 @@
-//! A small world that observer 0 watches, and how its nodes are made.
+//! A small world with observer 0, and the calls that make its nodes.
 
 ghost use Rattle.std.specs.Prelude.{◌≡◌, true};
 ghost use Rattle.dom_edit.specs.Whole.{IsWhole};
@@ -14,8 +14,8 @@ use dom_units::Units;
 use std::alloc::{AllocError, Global};
 use std::process::Abort;
 
-/// Three trees: document 0 has element 1, which has Text 2 ("ab"), element 3 with Text 4 ("cd") in it, and Text 5 ("ef"); element 6 has
-/// Text 7 without data, Text 8 ("gh") and Text 9 ("ij"); fragment 10 has Comment 11 ("kl") and element 12. The first two are watched.
+/// Three trees: document 0 has element 1, with Text 2 ("ab"), element 3 with Text 4 ("cd") in it, and Text 5 ("ef"). Element 6 has Text 7 without
+/// data, Text 8 ("gh") and Text 9 ("ij"). Fragment 10 has Comment 11 ("kl") and element 12. Observer 0 observes the first two trees.
 pub(crate) const SMALL_WORLD: &[Row] = &[
     Row::Do(Call::New(New::Make(Kind::Element, ""))),
     Row::Do(Call::Append(0, 1)),
@@ -44,7 +44,7 @@ pub(crate) const SMALL_WORLD: &[Row] = &[
     Row::Do(Call::Watch(6)),
 ];
 
-/// A node that is held, and of that kind.
+/// Returns the node with a number, and asserts that it exists and is of a kind.
 pub(crate) fn of_kind(rt: &impl Abort, world: &World, number: u32, kind: Kind) -> NodeId
     ensures { is_of_kind kind world.now.tree.forest result ≡ true }
 {
@@ -53,7 +53,7 @@ pub(crate) fn of_kind(rt: &impl Abort, world: &World, number: u32, kind: Kind) -
     node
 }
 
-/// Makes a root of that kind in document 0.
+/// Makes a root of a kind in document 0.
 pub(crate) fn make(
     rt: &impl Abort,
     world: &mut World,
@@ -68,7 +68,7 @@ pub(crate) fn make(
     Ok(world.make(Label::nameless(kind), content, Some(document))?)
 }
 
-/// The same with that data.
+/// Makes a root of a kind with data in document 0.
 pub(crate) fn make_with(
     rt: &impl Abort,
     world: &mut World,
@@ -105,7 +105,7 @@ pub(crate) fn make_observer(rt: &impl Abort, world: &mut World) -> Result<(), Re
     Ok(())
 }
 
-// All that happens at and below a node.
+// Returns options that observe all changes of a node and its descendants.
 fn all_below() -> RawOptions {
     RawOptions {
         child_list: Some(true),
@@ -118,7 +118,7 @@ fn all_below() -> RawOptions {
     }
 }
 
-/// Lets observer 0 watch all that happens at and below a node.
+/// Registers observer 0 for all changes of a node and its descendants.
 pub(crate) fn watch(rt: &impl Abort, world: &mut World, node: u32) -> Result<(), AllocError>
     requires { IsWhole world.old }
     ensures { IsWhole world.new }

@@ -1,4 +1,4 @@
-//! Nodes that are copied, and copied into another document. Where memory is wanting, the originals stay as they are.
+//! Nodes that are cloned, and imported into another document. A call that is out of memory leaves the originals unchanged.
 
 ghost use Rattle.dom_edit.specs.Whole.{IsWhole};
 
@@ -13,7 +13,7 @@ use std::alloc::Global;
 use std::process::Abort;
 use std::test::Fail;
 
-/// Copies a node, with or without what stands below it.
+/// Clones a node, with or without its descendants.
 pub(crate) fn copied(
     rt: &impl Abort,
     world: &mut World,
@@ -30,7 +30,7 @@ pub(crate) fn copied(
     Ok(clone_node(world, alloc, node, deep)?)
 }
 
-/// Copies a node and what stands below it into a document.
+/// Clones a node with its descendants into a document.
 pub(crate) fn imported(
     rt: &impl Abort,
     world: &mut World,
@@ -48,7 +48,7 @@ pub(crate) fn imported(
     import(world, alloc, document, node, true)
 }
 
-// Element 1 and what stands below it are where they were.
+// Element 1 and its descendants are unchanged.
 const ORIGINALS: &[Fact] = &[
     Fact::Children(0, &[1]),
     Fact::Children(1, &[2, 3, 5]),
@@ -58,7 +58,7 @@ const ORIGINALS: &[Fact] = &[
     Fact::Data(5, "ef"),
 ];
 
-// A copy of element 1 with all below it.
+// Clones element 1 with its descendants.
 const A_TREE_IS_COPIED: &[Row] = &[
     Row::Try(Call::New(New::Clone(1, true))),
     Row::Then(
@@ -90,7 +90,7 @@ fn a_tree_is_copied(rt: HostRuntime) -> Result<(), Fail> {
     played(&rt, rt.alloc(), SMALL_WORLD, A_TREE_IS_COPIED)
 }
 
-// A copy of element 1 alone.
+// Clones element 1 alone.
 const A_NODE_IS_COPIED_ALONE: &[Row] = &[
     Row::Try(Call::New(New::Clone(1, false))),
     Row::Then(When::Refused, &[Fact::Held(13)]),
@@ -111,7 +111,7 @@ fn a_node_is_copied_alone(rt: HostRuntime) -> Result<(), Fail> {
     played(&rt, rt.alloc(), SMALL_WORLD, A_NODE_IS_COPIED_ALONE)
 }
 
-// A copy of element 1 with all below it, in a second document.
+// Clones element 1 with its descendants into a second document.
 const A_TREE_IS_IMPORTED: &[Row] = &[
     Row::Then(When::Always, &[Fact::Made(&[13])]),
     Row::Try(Call::New(New::MakeDocument)),

@@ -1,4 +1,5 @@
-//! What lies in a live range read, deleted, extracted and copied. Where memory is wanting, the world goes on from what it is then.
+//! The contents of a live range, which are read, deleted, extracted and cloned. After a call that is out of memory, the test continues in the world
+//! that it left.
 
 ghost use Rattle.std.specs.Option.{IsSome};
 ghost use Rattle.dom_ranges.specs.Tables.{range_in};
@@ -37,7 +38,7 @@ fn range_made(
     world.ranges.make(&world.tree, start, end)
 }
 
-// Behind the first unit of a Text.
+// Returns the point after the first unit of a Text.
 fn behind_the_first_unit(text: u32) -> Point {
     Point {
         node: NodeId::new(text),
@@ -45,7 +46,7 @@ fn behind_the_first_unit(text: u32) -> Point {
     }
 }
 
-/// Makes live range 0, from behind the first unit of one Text to behind the first of another.
+/// Makes live range 0, from after the first unit of one Text to after the first of another.
 pub(crate) fn select(
     rt: &impl Abort,
     world: &mut World,
@@ -61,7 +62,7 @@ pub(crate) fn select(
     Ok(())
 }
 
-/// Live range 0, which is held.
+/// Returns live range 0, and asserts that it exists.
 pub(crate) fn selected(rt: &impl Abort, world: &World) -> RangeId
     ensures { IsSome (range_in world.now.ranges result) }
 {
@@ -70,7 +71,7 @@ pub(crate) fn selected(rt: &impl Abort, world: &World) -> RangeId
     range
 }
 
-/// Compares the data of the Texts in live range 0.
+/// Asserts the data of the Texts in live range 0.
 pub(crate) fn expect_range_text(
     rt: &impl Abort,
     world: &World,
@@ -85,7 +86,7 @@ pub(crate) fn expect_range_text(
     Ok(())
 }
 
-// The data of the Texts in the range.
+// Reads the data of the Texts in the range.
 const THE_TEXT_OF_A_RANGE: &[Row] = &[
     Row::Do(Call::Select(2, 5)),
     Row::Do(Call::Ask(Ask::RangeText("bcde"))),
@@ -96,7 +97,7 @@ fn the_text_of_a_range(rt: HostRuntime) -> Result<(), Fail> {
     played(&rt, rt.alloc(), SMALL_WORLD, THE_TEXT_OF_A_RANGE)
 }
 
-/// Deletes what lies in live range 0.
+/// Deletes the contents of live range 0.
 pub(crate) fn delete(rt: &impl Abort, world: &mut World, alloc: Global) -> Result<(), Refusal>
     requires { IsWhole world.old }
     ensures { IsWhole world.new }
@@ -105,7 +106,7 @@ pub(crate) fn delete(rt: &impl Abort, world: &mut World, alloc: Global) -> Resul
     Ok(delete_contents(world, alloc, range)?)
 }
 
-// What lies in the range leaves, and both ends stand where it was.
+// Deletes the contents of the range. Both ends are at their place then.
 const CONTENTS_ARE_DELETED: &[Row] = &[
     Row::Do(Call::Select(2, 5)),
     Row::Try(Call::Delete),
@@ -129,7 +130,7 @@ fn contents_are_deleted(rt: HostRuntime) -> Result<(), Fail> {
     played(&rt, rt.alloc(), SMALL_WORLD, CONTENTS_ARE_DELETED)
 }
 
-/// Takes what lies in live range 0 into a new fragment.
+/// Extracts the contents of live range 0 into a new fragment.
 pub(crate) fn extracted(
     rt: &impl Abort,
     world: &mut World,
@@ -144,7 +145,7 @@ pub(crate) fn extracted(
     extract(world, alloc, range)
 }
 
-// What lies in the range goes into fragment 13.
+// Extracts the contents of the range into fragment 13.
 const CONTENTS_ARE_EXTRACTED: &[Row] = &[
     Row::Do(Call::Select(2, 5)),
     Row::Try(Call::New(New::Extract)),
@@ -176,7 +177,7 @@ fn contents_are_extracted(rt: HostRuntime) -> Result<(), Fail> {
     played(&rt, rt.alloc(), SMALL_WORLD, CONTENTS_ARE_EXTRACTED)
 }
 
-/// Copies what lies in live range 0 into a new fragment.
+/// Clones the contents of live range 0 into a new fragment.
 pub(crate) fn contents_copied(
     rt: &impl Abort,
     world: &mut World,
@@ -191,7 +192,7 @@ pub(crate) fn contents_copied(
     clone_contents(world, alloc, range)
 }
 
-// Copies of what lies in the range are made in a fragment, numbered behind it.
+// Clones the contents of the range into a fragment. The clones have the numbers after it.
 const CONTENTS_ARE_COPIED: &[Row] = &[
     Row::Do(Call::Select(2, 5)),
     Row::Try(Call::New(New::CloneContents)),
@@ -220,9 +221,9 @@ fn contents_are_copied(rt: HostRuntime) -> Result<(), Fail> {
     played(&rt, rt.alloc(), SMALL_WORLD, CONTENTS_ARE_COPIED)
 }
 
-// From inside element 3 to Text 5, what lies in the range is copied, and then taken out. What each refused growth leaves is whole; the numbers
-// tell whether one was. Each fragment has a copy of element 3 with the end of Text 4 in it, and the front of Text 5. The element's copy has a
-// fragment of its own first, which is left empty.
+// Clones and extracts the contents from inside element 3 to Text 5. The state after each refused allocation is whole, and the numbers show whether
+// there was one. Each fragment has a clone of element 3 with the end of Text 4 in it, and the beginning of Text 5. The element's clone first has a
+// fragment of its own, which is empty in the end.
 const CONTENTS_THAT_BEGIN_INSIDE_AN_ELEMENT: &[Row] = &[
     Row::Do(Call::Select(4, 5)),
     Row::Do(Call::New(New::CloneContents)),
@@ -262,7 +263,8 @@ fn contents_that_begin_inside_an_element(rt: HostRuntime) -> Result<(), Fail> {
     played(&rt, rt.alloc(), SMALL_WORLD, scene)
 }
 
-// The same from Text 2 to inside element 3. Each fragment has the end of Text 2, and a copy of element 3 with the front of Text 4 in it.
+// Clones and extracts the contents from Text 2 to inside element 3. Each fragment has the end of Text 2, and a clone of element 3 with the beginning
+// of Text 4.
 const CONTENTS_THAT_END_INSIDE_AN_ELEMENT: &[Row] = &[
     Row::Do(Call::Select(2, 4)),
     Row::Do(Call::New(New::CloneContents)),

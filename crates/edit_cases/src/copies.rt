@@ -1,4 +1,4 @@
-//! How nodes stand to each other.
+//! Positions of nodes relative to each other, and equality.
 
 use crate::facts::Fact;
 use crate::scenes::{Call, New, Row, When, played};
@@ -18,7 +18,7 @@ const FOUR_ELEMENTS: &[Row] = &[
     Row::Do(Call::Append(3, 4)),
 ];
 
-// Two nodes, how the second stands to the first, whether it is inside it, and whether both are equal.
+// Two nodes, the position of the second relative to the first, whether it is inside the first, and whether both are equal.
 const NODES_STAND_TO_EACH_OTHER: &[Row] = &[Row::Then(
     When::Always,
     &[

@@ -1,4 +1,4 @@
-//! Nodes that are made, put in, replaced, taken out and adopted. Where memory is wanting, the world goes on from what it is then.
+//! Nodes that are made, inserted, replaced, removed and adopted. After a call that is out of memory, the test continues in the world that it left.
 
 ghost use Rattle.std.specs.Option.{ForSome};
 ghost use Rattle.dom_model.specs.Forests.Forest.{HasNode};
@@ -14,7 +14,7 @@ use std::alloc::Global;
 use std::process::Abort;
 use std::test::Fail;
 
-/// Puts a node last under another.
+/// Appends a node to another.
 pub(crate) fn append(
     rt: &impl Abort,
     world: &mut World,
@@ -30,7 +30,7 @@ pub(crate) fn append(
     world.append(alloc, parent, node)
 }
 
-// Element 6 goes last under element 1.
+// Appends element 6 to element 1.
 const A_NODE_IS_APPENDED: &[Row] = &[
     Row::Try(Call::Append(1, 6)),
     Row::Then(When::Refused, &[Fact::Held(13)]),
@@ -51,7 +51,7 @@ fn a_node_is_appended(rt: HostRuntime) -> Result<(), Fail> {
 
 const MAKE_A_COMMENT: Call = Call::New(New::Make(Kind::Comment, "mn"));
 
-// Comment 13 is a root of document 0. Where a growth is refused, nothing has come of it.
+// Makes Comment 13 as a root of document 0. If memory is refused, nothing has changed.
 const A_NODE_IS_MADE: &[Row] = &[
     Row::Try(MAKE_A_COMMENT),
     Row::Then(When::Refused, &[Fact::Made(&[13]), Fact::Live(13)]),
@@ -72,7 +72,7 @@ fn a_node_is_made(rt: HostRuntime) -> Result<(), Fail> {
     played(&rt, rt.alloc(), SMALL_WORLD, A_NODE_IS_MADE)
 }
 
-/// Puts a node in before a child of its new parent.
+/// Inserts a node before a child of its new parent.
 pub(crate) fn insert(
     rt: &impl Abort,
     world: &mut World,
@@ -90,7 +90,7 @@ pub(crate) fn insert(
     world.insert_before(alloc, parent, node, Some(child))
 }
 
-// The children of fragment 10 come in before element 3.
+// Inserts the children of fragment 10 before element 3.
 const A_FRAGMENT_IS_INSERTED: &[Row] = &[
     Row::Try(Call::Insert(1, 10, 3)),
     Row::Then(When::Refused, &[Fact::Held(13)]),
@@ -110,7 +110,7 @@ fn a_fragment_is_inserted(rt: HostRuntime) -> Result<(), Fail> {
     played(&rt, rt.alloc(), SMALL_WORLD, A_FRAGMENT_IS_INSERTED)
 }
 
-/// Puts a node in where a child stood, which leaves.
+/// Replaces a child by a node.
 pub(crate) fn replace(
     rt: &impl Abort,
     world: &mut World,
@@ -128,7 +128,7 @@ pub(crate) fn replace(
     world.replace(alloc, parent, node, child)
 }
 
-// Element 6 comes in where element 3 stood.
+// Replaces element 3 by element 6.
 const A_CHILD_IS_REPLACED: &[Row] = &[
     Row::Try(Call::Replace(1, 6, 3)),
     Row::Then(When::Refused, &[Fact::Held(13)]),
@@ -149,7 +149,7 @@ fn a_child_is_replaced(rt: HostRuntime) -> Result<(), Fail> {
     played(&rt, rt.alloc(), SMALL_WORLD, A_CHILD_IS_REPLACED)
 }
 
-/// Takes all children out of a node.
+/// Removes all children of a node.
 pub(crate) fn clear(
     rt: &impl Abort,
     world: &mut World,
@@ -179,7 +179,7 @@ fn all_children_leave(rt: HostRuntime) -> Result<(), Fail> {
     played(&rt, rt.alloc(), SMALL_WORLD, ALL_CHILDREN_LEAVE)
 }
 
-/// Takes a child out of its parent, which is named.
+/// Removes a child from the given parent.
 pub(crate) fn remove_child(
     rt: &impl Abort,
     world: &mut World,
@@ -194,7 +194,7 @@ pub(crate) fn remove_child(
     world.remove_child(parent, child)
 }
 
-// The child has left where memory was wanting too.
+// The child is removed, even if the call is out of memory.
 const A_CHILD_LEAVES: &[Row] = &[
     Row::Try(Call::RemoveChild(1, 3)),
     Row::Then(
@@ -214,7 +214,7 @@ fn a_child_leaves(rt: HostRuntime) -> Result<(), Fail> {
     played(&rt, rt.alloc(), SMALL_WORLD, A_CHILD_LEAVES)
 }
 
-/// Takes a node out of its parent, which is not named.
+/// Removes a node from its parent.
 pub(crate) fn remove(rt: &impl Abort, world: &mut World, node: u32) -> Result<(), Refusal>
     requires { IsWhole world.old }
     ensures { IsWhole world.new }
@@ -223,7 +223,7 @@ pub(crate) fn remove(rt: &impl Abort, world: &mut World, node: u32) -> Result<()
     Ok(world.remove(node)?)
 }
 
-// The same of Text 8. It comes in elsewhere, at the second try where a growth is refused.
+// Removes Text 8, even if the call is out of memory, and appends it elsewhere. If memory is refused, it tries once more.
 const A_NODE_LEAVES: &[Row] = &[
     Row::Try(Call::Remove(8)),
     Row::Then(
@@ -243,7 +243,7 @@ fn a_node_leaves(rt: HostRuntime) -> Result<(), Fail> {
     played(&rt, rt.alloc(), SMALL_WORLD, A_NODE_LEAVES)
 }
 
-// A node that is held, or none.
+// Returns the node with a number, if one is given, and asserts that it exists.
 fn held_if_any(rt: &impl Abort, world: &World, number: Option<u32>) -> Option<NodeId>
     ensures { ForSome result (λ n. HasNode world.now.tree.forest n) }
 {
@@ -253,7 +253,7 @@ fn held_if_any(rt: &impl Abort, world: &World, number: Option<u32>) -> Option<No
     }
 }
 
-/// Makes a node, the children of a fragment, or nothing, all that stands under another.
+/// Replaces all children of a node by another node, by the children of a fragment, or by nothing.
 pub(crate) fn replace_all(
     rt: &impl Abort,
     world: &mut World,
@@ -270,7 +270,7 @@ pub(crate) fn replace_all(
     world.replace_children(alloc, parent, node)
 }
 
-// The children of fragment 10 take the place of those of element 1.
+// Replaces the children of element 1 by those of fragment 10.
 const ALL_CHILDREN_ARE_REPLACED: &[Row] = &[
     Row::Try(Call::ReplaceAll(1, Some(10))),
     Row::Then(When::Refused, &[Fact::Held(13)]),
@@ -293,7 +293,7 @@ fn all_children_are_replaced(rt: HostRuntime) -> Result<(), Fail> {
     played(&rt, rt.alloc(), SMALL_WORLD, ALL_CHILDREN_ARE_REPLACED)
 }
 
-/// Takes a node out of its parent and into a document.
+/// Adopts a node into a document.
 pub(crate) fn adopt(
     rt: &impl Abort,
     world: &mut World,
@@ -308,7 +308,7 @@ pub(crate) fn adopt(
     world.adopt(document, node)
 }
 
-// Element 3 goes into a second document, with the Text in it.
+// Adopts element 3 into a second document, with the Text in it.
 const A_TREE_IS_ADOPTED: &[Row] = &[
     Row::Then(When::Always, &[Fact::Made(&[13])]),
     Row::Try(Call::New(New::MakeDocument)),
@@ -336,7 +336,7 @@ fn a_tree_is_adopted(rt: HostRuntime) -> Result<(), Fail> {
     played(&rt, rt.alloc(), SMALL_WORLD, A_TREE_IS_ADOPTED)
 }
 
-/// Compares whether a tree may be discarded.
+/// Asserts whether a tree can be discarded.
 pub(crate) fn expect_discardable(rt: &impl Abort, world: &World, node: u32, free: bool)
     requires { IsWhole world.now }
 {

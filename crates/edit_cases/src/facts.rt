@@ -1,4 +1,4 @@
-//! What holds in a world, as rows of a table: asked by one function, in which each question stands once.
+//! Expected facts of a world, as rows of a table. One function checks them, with each check once.
 
 ghost use Rattle.dom_model.specs.Forests.Forest.{HasNode};
 
@@ -9,13 +9,13 @@ use dom_ranges::RangeId;
 use dom_tree::NodeId;
 use std::process::Abort;
 
-/// From this number on, a node is named by the new node that was answered last: this is that node itself, and `NEW + 3` the third number behind it.
+/// The first number that stands for the last new node: `NEW` is that node, and `NEW + 3` the third number after it.
 pub(crate) const NEW: u32 = 1_000;
 
-/// The same of the node that was answered before that.
+/// The first number that stands for the new node before the last one.
 pub(crate) const OLDER: u32 = 2_000;
 
-/// What the calls of a scene have answered: whether the last one that was tried was refused, and the last two new nodes.
+/// The outcome of the calls of a scene: whether the last tried call was refused, and the last two new nodes.
 #[derive(Clone, Copy)]
 pub struct Course {
     pub refused: bool,
@@ -24,13 +24,13 @@ pub struct Course {
 }
 
 impl Course {
-    /// A new node was answered.
+    /// Stores a new node.
     pub(crate) fn answers(&mut self, node: u32) {
         self.older = self.new;
         self.new = node;
     }
 
-    // The number of a node that a fact names.
+    // Returns the number of the node that a fact names.
     fn number(self, named: u32) -> u32 {
         if named < NEW {
             named
@@ -42,40 +42,40 @@ impl Course {
     }
 }
 
-/// What holds in a world. A node is told by its number, or from `NEW` on by a node that was answered.
+/// An expected fact of a world. A node is named by its number, or from `NEW` on relative to a new node.
 #[derive(Clone, Copy)]
 pub enum Fact {
-    /// All numbers below this one are of nodes that are held.
+    /// All numbers below this one are numbers of nodes.
     Held(u32),
-    /// How many numbers were given out is one of these.
+    /// How many numbers were given is one of these.
     Made(&'static [u64]),
-    /// There are so many nodes.
+    /// How many nodes there are.
     Live(u64),
-    /// The last call answered the node of that number.
+    /// The last call returned the node with this number.
     Answered(u32),
-    /// These are the children of a node, in their order.
+    /// The children of a node, in order.
     Children(u32, &'static [u32]),
     /// None of these nodes has a parent.
     Roots(&'static [u32]),
-    /// A node stands right behind another.
+    /// A node is the next sibling of another.
     Behind(u32, u32),
-    /// A node has that node document.
+    /// The node document of a node.
     Document(u32, u32),
-    /// A node has that data, of units below 128.
+    /// The data of a node, with units below 128.
     Data(u32, &'static str),
-    /// A node has so many attributes.
+    /// The number of attributes of a node.
     Attributes(u32, usize),
-    /// A node has that attribute, with that value.
+    /// An attribute of a node, and its value.
     Attribute(u32, &'static str, &'static str),
     /// Both nodes are equal.
     Equal(u32, u32),
-    /// How the second node stands to the first, whether it is inside it, and whether both are equal.
+    /// The position of the second node relative to the first, whether it is inside the first, and whether both are equal.
     Stands(u32, u32, u16, bool, bool),
-    /// Both ends of live range 0 stand in element 1, at these offsets.
+    /// Both ends of live range 0 are in element 1, at these offsets.
     Ends(usize, usize),
 }
 
-/// A node that is held.
+/// Returns the node with a number, and asserts that it exists.
 pub(crate) fn held(rt: &impl Abort, world: &World, number: u32) -> NodeId
     ensures { HasNode world.now.tree.forest result }
 {
@@ -84,19 +84,19 @@ pub(crate) fn held(rt: &impl Abort, world: &World, number: u32) -> NodeId
     node
 }
 
-// The data and attributes of a node.
+// Returns the data and attributes of a node.
 fn body<'a>(rt: &impl Abort, world: &'a World, number: u32) -> &'a Content {
     world.tree.body(held(rt, world, number))
 }
 
-// That the nodes below a number are held.
+// Asserts that all numbers below one are numbers of nodes.
 fn expect_held(rt: &impl Abort, world: &World, made: u32) {
     for number in 0..made {
         assert!(rt; world.tree.holds(NodeId::new(number)), "node {number}");
     }
 }
 
-// That these are the children of a node, in their order.
+// Asserts the children of a node, in order.
 fn expect_children(rt: &impl Abort, world: &World, course: Course, parent: u32, numbers: &[u32]) {
     let parent = held(rt, world, course.number(parent));
     assert_eq!(rt; world.tree.count(parent), numbers.len());
@@ -114,7 +114,7 @@ fn expect_children(rt: &impl Abort, world: &World, course: Course, parent: u32, 
     assert_eq!(rt; world.tree.last(parent), last);
 }
 
-// That none of these nodes has a parent.
+// Asserts that none of these nodes has a parent.
 fn expect_roots(rt: &impl Abort, world: &World, course: Course, numbers: &[u32]) {
     for number in numbers {
         let node = held(rt, world, course.number(*number));
@@ -122,12 +122,12 @@ fn expect_roots(rt: &impl Abort, world: &World, course: Course, numbers: &[u32])
     }
 }
 
-/// That these are the units of a text, each below 128.
+/// Asserts the units of a text, each below 128.
 pub(crate) fn expect_units(rt: &impl Abort, units: &[u16], text: &str) {
     assert!(rt; units.iter().copied().eq(text.bytes().map(u16::from)));
 }
 
-// That a content has that attribute, with that value.
+// Asserts an attribute of a content, and its value.
 fn expect_attribute(rt: &impl Abort, content: &Content, key: &str, value: &str) {
     match content.attribute(key) {
         Some(found) => expect_units(rt, found.units(), value),
@@ -135,7 +135,7 @@ fn expect_attribute(rt: &impl Abort, content: &Content, key: &str, value: &str) 
     }
 }
 
-// How a node stands to another, whether that is inside it, and whether both are equal.
+// Returns the position of a node relative to another, whether it is inside the other, and whether both are equal.
 fn standing(rt: &impl Abort, world: &World, node: u32, other: u32) -> (u16, bool, bool) {
     let (node, other) = (held(rt, world, node), held(rt, world, other));
     let tree = &world.tree;
@@ -146,7 +146,7 @@ fn standing(rt: &impl Abort, world: &World, node: u32, other: u32) -> (u16, bool
     )
 }
 
-// The offsets of both ends of live range 0, which stand in element 1.
+// Returns the offsets of both ends of live range 0, and asserts that they are in element 1.
 fn ends(rt: &impl Abort, world: &World) -> (usize, usize) {
     let (node, range) = (NodeId::new(1), RangeId::new(0));
     assert!(rt; world.ranges.holds(range));
@@ -155,17 +155,17 @@ fn ends(rt: &impl Abort, world: &World) -> (usize, usize) {
     (start.offset, end.offset)
 }
 
-// The node right in front of a node.
+// Returns the previous sibling of a node.
 fn previous(rt: &impl Abort, world: &World, node: u32) -> Option<NodeId> {
     world.tree.prev(held(rt, world, node))
 }
 
-// The number of the node document of a node.
+// Returns the number of the node document of a node.
 fn document_of(rt: &impl Abort, world: &World, node: u32) -> u32 {
     world.tree.document_of(held(rt, world, node)).number()
 }
 
-// That a fact holds.
+// Asserts a fact.
 fn expect(rt: &impl Abort, world: &World, course: Course, fact: &Fact) {
     match *fact {
         Fact::Held(made) => expect_held(rt, world, made),
@@ -200,7 +200,7 @@ fn expect(rt: &impl Abort, world: &World, course: Course, fact: &Fact) {
     }
 }
 
-/// That all of these hold.
+/// Asserts facts in order.
 pub(crate) fn expect_all(rt: &impl Abort, world: &World, course: Course, facts: &[Fact]) {
     for fact in facts {
         expect(rt, world, course, fact);

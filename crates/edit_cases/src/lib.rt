@@ -1,4 +1,4 @@
-//! The tests of edits, data, attributes, copies and contents in a small world, also where a growth is refused.
+//! The tests of edits, data, attributes, copies and contents in a small world, also with refused allocations.
 #![tactic(auto)]
 
 #[cfg(test)]
@@ -11,6 +11,8 @@ mod cloning;
 mod contents;
 #[cfg(test)]
 mod copies;
+#[cfg(test)]
+mod documents;
 #[cfg(test)]
 mod editing;
 #[cfg(test)]

@@ -1,4 +1,4 @@
-//! Scenes: what is called in a world, row by row, and what holds then. Where memory is wanting, a scene goes on from what the world is then.
+//! Scenes: rows of calls in a world, and of expected facts. After a call that is out of memory, a scene continues in the world that it left.
 
 ghost use Rattle.std.specs.Prelude.{◌≡◌, IfOk};
 ghost use Rattle.dom_edit.specs.Whole.{IsWhole};
@@ -22,111 +22,111 @@ use std::alloc::{AllocError, Global};
 use std::process::Abort;
 use std::test::Fail;
 
-/// A call that answers a new node.
+/// A call that returns a new node.
 #[derive(Clone, Copy)]
 pub enum New {
-    /// A node of a kind with that data, in document 0.
+    /// Makes a node of a kind with data, in document 0.
     Make(Kind, &'static str),
-    /// The same without data.
+    /// Makes a node of a kind without data, in document 0.
     MakeBare(Kind),
     MakeDocument,
-    /// A Text is split at an offset.
+    /// Splits a Text at an offset.
     Split(u32, usize),
-    /// A node is copied, with or without what stands below it.
+    /// Clones a node, with or without its descendants.
     Clone(u32, bool),
-    /// Into a document, a node is copied with all below it.
+    /// Imports into a document a node with its descendants.
     Import(u32, u32),
-    /// What lies in live range 0 is taken out.
+    /// Extracts the contents of live range 0.
     Extract,
     CloneContents,
 }
 
-/// A call that changes nothing, with what it answers.
+/// A call that changes nothing, with its expected value.
 #[derive(Clone, Copy)]
 pub enum Ask {
     TextContent(u32, &'static str),
-    /// Of a node, from an offset, so many units.
+    /// The data of a node from an offset on, at most this many units.
     Substring(u32, usize, usize, &'static str),
-    /// Of live range 0.
+    /// The text of live range 0.
     RangeText(&'static str),
     CanDiscard(u32, bool),
 }
 
-/// A change of a node's data or attributes, or of what stands below it.
+/// A change of a node's data, attributes or children.
 #[derive(Clone, Copy)]
 pub enum Change {
     SetTextContent(&'static str),
-    /// From an offset on, so many units give way to these.
+    /// Replaces units from an offset on: how many, and the new ones.
     ReplaceData(usize, usize, &'static [u16]),
     SetData(&'static [u16]),
     Normalize,
     SetAttribute(&'static str, &'static str),
     RemoveAttribute(&'static str),
-    /// It answers whether the attribute is there then.
+    /// Toggles an attribute, and expects whether it exists then.
     ToggleAttribute(&'static str, bool),
 }
 
-/// A call on the world. A parent stands ahead of the node that comes in, and that ahead of the child that it comes before.
+/// A call on the world. A parent precedes the inserted node, and that precedes the child that it is inserted before.
 #[derive(Clone, Copy)]
 pub enum Call {
     New(New),
     Ask(Ask),
     Append(u32, u32),
     Insert(u32, u32, u32),
-    /// The child last named gives way.
+    /// Replaces the last of these nodes.
     Replace(u32, u32, u32),
-    /// All children of a node give way to a node, or to nothing.
+    /// Replaces all children of a node by a node, or by nothing.
     ReplaceAll(u32, Option<u32>),
-    /// The same, to nothing, without a check.
+    /// Removes all children of a node without a check.
     Clear(u32),
     RemoveChild(u32, u32),
     Remove(u32),
-    /// Into a document.
+    /// Adopts into a document.
     Adopt(u32, u32),
-    /// The data or attributes of a node, or what stands below it, are changed.
+    /// Changes the data, attributes or children of a node.
     Change(u32, Change),
-    /// Live range 0 is made, from behind the first unit of one Text to behind the first of another.
+    /// Makes live range 0, from after the first unit of one Text to after the first of another.
     Select(u32, u32),
-    /// What lies in live range 0 is deleted.
+    /// Deletes the contents of live range 0.
     Delete,
-    /// A node is inserted at the start of live range 0.
+    /// Inserts a node at the start of live range 0.
     InsertNode(u32),
-    /// A node is put around what lies in live range 0.
+    /// Surrounds the contents of live range 0 with a node.
     Surround(u32),
-    /// Observer 0 is made.
+    /// Makes observer 0.
     MakeObserver,
-    /// Observer 0 watches all that happens at and below a node.
+    /// Registers observer 0 for all changes of a node and its descendants.
     Watch(u32),
 }
 
 /// A row of a scene.
 #[derive(Clone, Copy)]
 pub enum Row {
-    /// A call is made, and made again where memory is wanting.
+    /// Makes a call, and repeats it if it is out of memory.
     Do(Call),
-    /// A call is made, and may be refused for want of memory.
+    /// Makes a call, which may be out of memory.
     Try(Call),
-    /// A call is made where the last one that was tried was refused.
+    /// Makes a call if the last tried call was refused.
     Again(Call),
-    /// A call is refused with that exception.
+    /// Expects that a call fails with an exception.
     Fails(Call, DomError),
-    /// All this holds then.
+    /// Expects all these facts.
     Then(When, &'static [Fact]),
 }
 
-/// When facts are to hold.
+/// The condition on which facts are expected.
 #[derive(Clone, Copy)]
 pub enum When {
     Always,
-    /// Where the last call that was tried was granted.
+    /// The last tried call succeeded.
     Granted,
-    /// Where it was refused.
+    /// The last tried call was refused.
     Refused,
-    /// Where so many numbers were given out.
+    /// This many numbers were given.
     Made(u64),
 }
 
-// Makes a call that answers a new node.
+// Makes a call that returns a new node.
 fn made(rt: &impl Abort, world: &mut World, alloc: Global, new: New) -> Result<NodeId, Refusal>
     requires { IsWhole world.old }
     ensures { IsWhole world.new }
@@ -143,7 +143,7 @@ fn made(rt: &impl Abort, world: &mut World, alloc: Global, new: New) -> Result<N
     }
 }
 
-// Asks a question, and compares the answer.
+// Makes a call that changes nothing, and asserts its value.
 fn asked(rt: &impl Abort, world: &World, alloc: Global, ask: Ask) -> Result<(), Refusal>
     requires { IsWhole world.now }
 {
@@ -220,7 +220,7 @@ fn called(
     }
 }
 
-// Makes a call that no exception stands in the way of. It answers whether it was granted.
+// Makes a call that fails with no exception, and returns whether it succeeded.
 fn tried(rt: &impl Abort, world: &mut World, alloc: Global, course: &mut Course, call: Call) -> bool
     requires { IsWhole world.old }
     ensures { IsWhole world.new }
@@ -234,7 +234,7 @@ fn tried(rt: &impl Abort, world: &mut World, alloc: Global, course: &mut Course,
     }
 }
 
-// Whether facts are to hold then.
+// Returns whether the condition of facts holds.
 fn is_due(world: &World, course: Course, when: When) -> bool {
     match when {
         When::Always => true,
@@ -280,7 +280,7 @@ fn play_row(
     Ok(())
 }
 
-/// Plays rows, one after the other, on a world, their stage.
+/// Plays rows in order, on a world.
 fn play(
     rt: &impl Abort,
     stage: &mut World,
@@ -297,7 +297,7 @@ fn play(
     Ok(())
 }
 
-// Plays what a scene begins with, and the scene.
+// Plays the first rows of a scene, and then the scene.
 fn play_both(
     rt: &impl Abort,
     world: &mut World,
@@ -317,8 +317,8 @@ fn play_both(
     Ok(())
 }
 
-// A world with document 0 alone. Where a growth is refused, it is made at the second try. What it stands for is left out, so that what follows
-// stays cheap to prove.
+// Returns a world with document 0 alone. If memory is refused, it tries once more. Its view is left out of the contract, so that its callers stay
+// cheap to prove.
 fn first(alloc: Global) -> Result<World, AllocError>
     ensures { IfOk result IsWhole }
 {
@@ -328,7 +328,7 @@ fn first(alloc: Global) -> Result<World, AllocError>
     }
 }
 
-/// Plays a scene in a world of its own, which begins with document 0 and these rows. It alone owns the world and lets it go, which is dear to
+/// Plays a scene in a world of its own, with document 0 and the given rows first. Only this function drops the world, because that takes long to
 /// prove.
 pub(crate) fn played(
     rt: &impl Abort,

@@ -1,4 +1,4 @@
-//! Data, Texts and attributes that change, and the text of nodes. Where memory is wanting, the world goes on from what it is then.
+//! Changes of data, Texts and attributes, and the text of nodes. After a call that is out of memory, the test continues in the world that it left.
 
 ghost use Rattle.std.specs.Prelude.{◌≡◌, true};
 ghost use Rattle.dom_model.specs.Forests.Kinds.{is_character_data};
@@ -19,7 +19,7 @@ use std::alloc::Global;
 use std::process::Abort;
 use std::test::Fail;
 
-/// Compares the data of all Texts below a node.
+/// Asserts the text content of a node.
 pub(crate) fn expect_text_content(
     rt: &impl Abort,
     world: &World,
@@ -44,7 +44,7 @@ fn the_text_of_an_element(rt: HostRuntime) -> Result<(), Fail> {
 
 const THE_TEXT_OF_AN_ELEMENT: &[Row] = &[Row::Do(Call::Ask(Ask::TextContent(1, "abcdef")))];
 
-/// Makes a text the text content of a node.
+/// Sets the text content of a node.
 pub(crate) fn fill(
     rt: &impl Abort,
     world: &mut World,
@@ -63,7 +63,7 @@ pub(crate) fn fill(
 
 const FILL_AN_ELEMENT: Call = Call::Change(1, Change::SetTextContent("mn"));
 
-// A Text takes the place of the children of element 1. Where the first call was refused, it may have made one.
+// Replaces the children of element 1 by a Text. If the first call is refused, it may have made one nevertheless.
 const AN_ELEMENT_IS_FILLED: &[Row] = &[
     Row::Try(FILL_AN_ELEMENT),
     Row::Then(When::Granted, &[Fact::Made(&[14])]),
@@ -94,7 +94,7 @@ fn an_element_is_filled(rt: HostRuntime) -> Result<(), Fail> {
 
 const FILL_A_TEXT: Call = Call::Change(2, Change::SetTextContent("mnop"));
 
-// All data of Text 2 is replaced.
+// Replaces all data of Text 2.
 const A_TEXT_IS_FILLED: &[Row] = &[
     Row::Try(FILL_A_TEXT),
     Row::Then(When::Refused, &[Fact::Held(13), Fact::Data(2, "ab")]),
@@ -110,7 +110,7 @@ fn a_text_is_filled(rt: HostRuntime) -> Result<(), Fail> {
     played(&rt, rt.alloc(), SMALL_WORLD, A_TEXT_IS_FILLED)
 }
 
-// A node that is held, and has data.
+// Returns the node with a number, and asserts that it exists and has character data.
 fn with_data(rt: &impl Abort, world: &World, number: u32) -> NodeId
     ensures { kind_passes is_character_data world.now.tree.forest result ≡ true }
 {
@@ -119,7 +119,7 @@ fn with_data(rt: &impl Abort, world: &World, number: u32) -> NodeId
     node
 }
 
-/// From an offset on, so many units of a node's data give way to others.
+/// Replaces units of a node's data from an offset on.
 pub(crate) fn replace_units(
     rt: &impl Abort,
     world: &mut World,
@@ -135,10 +135,10 @@ pub(crate) fn replace_units(
     replace_data(world, alloc, node, place.0, place.1, added)
 }
 
-// "m", "n" and "o" in place of all that follows the first unit.
+// Replaces all units after the first by "m", "n" and "o".
 const REPLACE_UNITS: Call = Call::Change(2, Change::ReplaceData(1, 9, &[109, 110, 111]));
 
-// The data of Text 2 from an offset on is replaced.
+// Replaces the data of Text 2 from an offset on.
 const UNITS_ARE_REPLACED: &[Row] = &[
     Row::Try(REPLACE_UNITS),
     Row::Then(When::Refused, &[Fact::Held(13), Fact::Data(2, "ab")]),
@@ -151,7 +151,7 @@ fn units_are_replaced(rt: HostRuntime) -> Result<(), Fail> {
     played(&rt, rt.alloc(), SMALL_WORLD, UNITS_ARE_REPLACED)
 }
 
-/// Makes units all data of a node.
+/// Sets all data of a node.
 pub(crate) fn set_units(
     rt: &impl Abort,
     world: &mut World,
@@ -166,10 +166,10 @@ pub(crate) fn set_units(
     Ok(set_data(world, alloc, node, added)?)
 }
 
-// "m", "n" and "o".
+// Sets "m", "n" and "o".
 const SET_UNITS: Call = Call::Change(11, Change::SetData(&[109, 110, 111]));
 
-// All data of comment 11 is replaced.
+// Replaces all data of comment 11.
 const ALL_DATA_IS_SET: &[Row] = &[
     Row::Try(SET_UNITS),
     Row::Then(When::Refused, &[Fact::Held(13), Fact::Data(11, "kl")]),
@@ -182,7 +182,7 @@ fn all_data_is_set(rt: HostRuntime) -> Result<(), Fail> {
     played(&rt, rt.alloc(), SMALL_WORLD, ALL_DATA_IS_SET)
 }
 
-/// Compares so many units of a node's data, from an offset on.
+/// Asserts `count` units of a node's data from an offset on.
 pub(crate) fn expect_substring(
     rt: &impl Abort,
     world: &World,
@@ -199,7 +199,7 @@ pub(crate) fn expect_substring(
     Ok(())
 }
 
-// Units of Text 5, cut at its end, and none past the end.
+// Reads units of Text 5 up to its end, and fails past the end.
 const A_PART_OF_THE_DATA: &[Row] = &[
     Row::Do(Call::Ask(Ask::Substring(5, 1, 9, "f"))),
     Row::Fails(
@@ -229,7 +229,7 @@ pub(crate) fn split_at(
     split(world, alloc, node, offset)
 }
 
-// Text 2 is split behind its first unit, and the new Text stands behind it.
+// Splits Text 2 after its first unit. The new Text is its next sibling.
 const A_TEXT_IS_SPLIT: &[Row] = &[
     Row::Try(Call::New(New::Split(2, 1))),
     Row::Then(
@@ -257,7 +257,7 @@ fn a_text_is_split(rt: HostRuntime) -> Result<(), Fail> {
     played(&rt, rt.alloc(), SMALL_WORLD, A_TEXT_IS_SPLIT)
 }
 
-/// Joins the Texts below a node.
+/// Normalizes the Texts below a node.
 pub(crate) fn join(
     rt: &impl Abort,
     world: &mut World,

@@ -1,4 +1,4 @@
-//! Examples of a copied content, and of nodes that are made, adopted and asked about.
+//! A cloned content, and nodes that are made, adopted and queried.
 
 use crate::facts::Fact;
 use crate::scenes::{Ask, Call, New, Row, When, played};
@@ -18,7 +18,7 @@ fn fill(attrs: &mut Attrs, alloc: Global) -> Result<(), Fail> {
     Ok(())
 }
 
-// A text, and these attributes.
+// Returns a content with a text and two attributes.
 fn filled(alloc: Global) -> Result<Content, Fail> {
     let mut attrs = Attrs::new(alloc);
     fill(&mut attrs, alloc)?;
@@ -26,7 +26,7 @@ fn filled(alloc: Global) -> Result<Content, Fail> {
     Ok(Content::new(alloc, text, attrs)?)
 }
 
-// That the attribute at an index has that name and that value.
+// Asserts the name and the value of the attribute at an index.
 fn expect_attribute(rt: &impl Abort, content: &Content, index: usize, name: &str, value: &[u16]) {
     match content.attribute_at(index) {
         None => assert!(rt; false, "there is none"),
@@ -37,7 +37,7 @@ fn expect_attribute(rt: &impl Abort, content: &Content, index: usize, name: &str
     }
 }
 
-// That a content has that text and these attributes, in their order.
+// Asserts the text and the attributes of a content, in order.
 fn expect_filled(rt: &impl Abort, content: &Content) {
     assert_eq!(rt; content.text(), [233, 33].as_slice());
     assert_eq!(rt; content.attribute_count(), 2);
@@ -62,7 +62,7 @@ fn bytes_of_a_content(rt: HostRuntime) {
     assert_eq!(rt; size_of::<Content>(), 32);
 }
 
-// Text 2 of document 0 is adopted into document 1, and no document is. Document 1 is in use then, and the Text is no child.
+// Adopts Text 2 of document 0 into document 1; adopting a document fails. Document 1 is in use then, and the Text is no child.
 const ADOPTED_TEXTS: &[Row] = &[
     Row::Do(Call::New(New::MakeDocument)),
     Row::Then(When::Always, &[Fact::Answered(1)]),

@@ -1,4 +1,5 @@
-//! What is put at the start of a live range, and around what lies in it. Where memory is wanting, the world goes on from what it is then.
+//! Nodes that are inserted at the start of a live range, and around its contents. After a call that is out of memory, the test continues in the world
+//! that it left.
 
 ghost use Rattle.dom_edit.specs.Whole.{IsWhole};
 
@@ -28,7 +29,7 @@ pub(crate) fn insert_at_start(
     insert_node(world, alloc, range, node)
 }
 
-// Text 2 is split there, and element 6 comes in between its parts.
+// Splits Text 2, and inserts element 6 between its parts.
 const A_NODE_IS_INSERTED_AT_A_START: &[Row] = &[
     Row::Do(Call::Select(2, 5)),
     Row::Try(Call::InsertNode(6)),
@@ -53,7 +54,7 @@ fn a_node_is_inserted_at_a_start(rt: HostRuntime) -> Result<(), Fail> {
     played(&rt, rt.alloc(), SMALL_WORLD, A_NODE_IS_INSERTED_AT_A_START)
 }
 
-/// Puts what lies in live range 0 into a node, and that in its place.
+/// Surrounds the contents of live range 0 with a node.
 pub(crate) fn put_around(
     rt: &impl Abort,
     world: &mut World,
@@ -70,7 +71,7 @@ pub(crate) fn put_around(
     surround(world, alloc, range, node)
 }
 
-// What lies in the range stands in element 6, and that where it stood.
+// Surrounds the contents of the range with element 6, which is inserted at their place.
 const CONTENTS_ARE_SURROUNDED: &[Row] = &[
     Row::Do(Call::Select(2, 5)),
     Row::Try(Call::Surround(6)),

@@ -1,38 +1,38 @@
-//! What the tests of single low crates share: rows of steps that are played, and marks of what takes no memory.
+//! Shared code of the tests of single crates: it plays rows of steps, and marks code that takes no memory.
 //!
-//! What takes no memory stands between two marks, in tests whose names end with `without_a_growth`. tools/refused.py runs these under a
-//! `malloc` that refuses everything after the first mark: the second is then all that it refuses, and the test passes.
+//! Code that takes no memory is between two marks, in tests whose names end with `without_a_growth`. tools/refused.py runs these under a `malloc`
+//! that refuses everything after the first mark. If it refuses only the second mark, the test passes.
 #![tactic(auto)]
 
 use std::alloc::{AllocError, Global};
 
-/// Room of 7,777 bytes marks where what takes no memory begins. It answers true, as a step does.
+/// Marks where code that takes no memory begins, by reserving 7,777 bytes. Returns true, as a step does.
 pub fn begins(alloc: Global) -> Result<bool, AllocError> {
     let mut mark: Vec<u8> = Vec::new(alloc);
     mark.reserve(7777)?;
     Ok(true)
 }
 
-/// Room that may be refused marks where it ends. It answers true, as a step does.
+/// Marks where code that takes no memory ends, by reserving a byte, which may be refused. Returns true, as a step does.
 pub fn ends(alloc: Global) -> bool {
     let mut last: Vec<u8> = Vec::new(alloc);
     let _refused = last.reserve(1);
     true
 }
 
-/// What a test does, or asks.
+/// A step of a test: a call, or a check.
 pub trait Act {
-    /// What it is done with.
+    /// The state that the steps change and check.
     type Scene: Drop;
 
-    /// A scene with nothing in it.
+    /// Returns an empty scene.
     fn scene(alloc: Global) -> Self::Scene;
 
-    /// Does the step at a turn, or asks what is due then, and answers whether all is as it is due.
+    /// Runs the step at a turn, and returns whether the outcome is the expected one.
     fn act(&self, alloc: Global, scene: &mut Self::Scene, turn: u32) -> Result<bool, AllocError>;
 }
 
-// The turns of a row: from the first on, up to the one that ends them. It answers the turn at which something is not as it is due.
+// Runs a step at each turn of its row, and returns the first turn with an unexpected outcome.
 fn take_turns<S: Act>(
     alloc: Global,
     scene: &mut S::Scene,
@@ -47,8 +47,9 @@ fn take_turns<S: Act>(
     Ok(None)
 }
 
-/// Plays rows over a scene of their own. Each has its first turn, the one that ends its turns, and the step that is done at each of them. It
-/// answers the row and the turn at which something is not as it is due.
+/// Plays rows over a new scene. A row has its first turn, the turn after its last, and the step for each of its turns.
+///
+/// Returns the row and the turn of the first unexpected outcome.
 pub fn play<S: Act>(
     alloc: Global,
     rows: &[(u32, u32, S)],

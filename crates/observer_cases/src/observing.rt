@@ -7,7 +7,7 @@ use std::alloc::{AllocError, Global};
 use std::process::Abort;
 use std::test::Fail;
 
-/// No member is given.
+/// Returns options without members.
 pub(crate) fn nothing() -> RawOptions {
     RawOptions {
         child_list: None,
@@ -20,11 +20,11 @@ pub(crate) fn nothing() -> RawOptions {
     }
 }
 
-// Two members, as they are given: whether the thing is watched, and whether its old value is asked for.
+// Two members of options: whether something is observed, and whether its old value is recorded.
 type Member = (Option<bool>, Option<bool>);
 
-// Members of options, those of attributes first, then those of data, with whether the children are watched and whether there is an empty filter;
-// and whether attributes are watched, their old values, data, and its old values; none where the options are refused.
+// The members of options: those of attributes, those of data, whether children are observed, and whether there is an empty filter. Then whether the
+// settled options observe attributes, their old values, data, and its old values; none if the options are refused.
 type Setting = (
     Member,
     Member,
@@ -33,8 +33,8 @@ type Setting = (
     Option<(bool, bool, bool, bool)>,
 );
 
-// Asked for the old value or not, attributes are watched. So is the data, where its old value is asked for. A filter of attributes that are not
-// watched is refused, and so are old values of data that is not.
+// A member for old values makes attributes observed, whatever its value. A member for old data that is true makes data observed. A filter of
+// attributes that are not observed is refused, and so are old values of data that is not observed.
 const SETTINGS: &[Setting] = &[
     ((None, None), (None, None), None, false, None),
     (
@@ -61,7 +61,7 @@ const SETTINGS: &[Setting] = &[
     ),
 ];
 
-// The options of a setting.
+// Returns the options of a setting.
 fn given(alloc: Global, setting: &Setting) -> RawOptions {
     let (attributes, data, children, filter, _) = *setting;
     let mut given = nothing();
@@ -76,7 +76,7 @@ fn given(alloc: Global, setting: &Setting) -> RawOptions {
     given
 }
 
-// Settles the options of a setting.
+// Settles the options of a setting, and compares the outcome.
 fn settle_one(rt: &impl Abort, alloc: Global, setting: &Setting) {
     let settled = match settle(given(alloc, setting)) {
         Ok(options) => Some((
@@ -100,7 +100,7 @@ fn options_are_settled(rt: HostRuntime) {
     }
 }
 
-// What lies below, by the attribute "id".
+// Returns options that observe the attribute "id" of a subtree.
 fn by_id(alloc: Global) -> Result<RawOptions, AllocError> {
     let id = String::from_str(alloc, "id")?;
     let names = vec![in alloc; id]?;
@@ -110,7 +110,7 @@ fn by_id(alloc: Global) -> Result<RawOptions, AllocError> {
     Ok(given)
 }
 
-// That attributes by the name "id" are watched, below too, and nothing else.
+// Asserts that options observe attributes with the name "id" in a subtree, and nothing else.
 fn is_by_id(rt: &impl Abort, options: &Options) {
     assert!(rt; options.attributes && options.subtree);
     assert!(rt; !options.child_list && !options.character_data);
@@ -131,8 +131,8 @@ fn options_are_copied(rt: HostRuntime) -> Result<(), Fail> {
     Ok(())
 }
 
-// An observer is registered on a hundred nodes, and disconnected. The first registration on a node takes memory: where a growth is refused, it is
-// made at the second call.
+// Registers an observer on a hundred nodes, and disconnects it. The first registration on a node takes memory. If memory is refused, the second call
+// makes it.
 const A_HUNDRED_NODES: &[Part] = &[(
     1,
     &[
@@ -145,7 +145,7 @@ const A_HUNDRED_NODES: &[Part] = &[(
     ],
 )];
 
-// Each of the first hundred growths may be refused, and the registrations come out the same.
+// Each of the first hundred allocations may be refused, and the registrations are the same in the end.
 #[test]
 fn a_hundred_nodes(rt: HostRuntime) -> Result<(), Fail> {
     played(&rt, rt.alloc(), A_HUNDRED_NODES)

@@ -1,5 +1,5 @@
-//! Scenes: what is called of the observers of a tree of two roots, row by row, and what holds then. Where memory is wanting, what a refused call
-//! left is asked, and then the call is made again.
+//! Scenes: rows of calls on the observers of a tree of two roots, and of expected facts. If a call is out of memory, the scene checks the state that
+//! it left, and repeats the call.
 
 ghost use Rattle.std.specs.Option.{IsSome};
 ghost use Rattle.dom_observe.specs.Watchers.{queue_in};
@@ -13,95 +13,95 @@ use std::alloc::{AllocError, Global};
 use std::process::Abort;
 use std::test::Fail;
 
-/// What is watched of a node.
+/// The observed changes of a node.
 #[derive(Clone, Copy)]
 pub enum Watched {
     Children,
-    /// The data of the node and of all below it, with its old value.
+    /// The data of the node and of its descendants, with its old value.
     DataBelow,
-    /// The attributes of these names.
+    /// The attributes with these names.
     Attributes(&'static [&'static str]),
 }
 
-/// A call. An observer stands ahead of a node. Where it is refused, memory was wanting.
+/// A call. An observer precedes a node. A call is refused only if it is out of memory.
 #[derive(Clone, Copy)]
 pub enum Call {
-    /// One more observer is made. Where that is refused, no number is given out.
+    /// Makes an observer. If it is refused, no number is given.
     Make,
     Watch(u32, u32, Watched),
-    /// Observer 0 watches the children of each of so many nodes, at the second call where a growth is refused.
+    /// Registers observer 0 for the children of each of this many nodes; repeats a call that is out of memory.
     WatchEach(u32),
-    /// The data of a node changes, which was "c".
+    /// Changes the data of a node. It was "c".
     ChangeData(u32),
-    /// An attribute of that name changes.
+    /// Changes an attribute with a name.
     ChangeAttribute(u32, &'static str),
-    /// Node 1 leaves node 0, and is watched until the observers are told.
+    /// Removes node 1 from node 0. It stays observed until the observers are notified.
     Leave,
-    /// The record of node 1 that left node 0.
+    /// Queues the record of the removal of node 1 from node 0.
     TellOfLeaving,
-    /// So many observers are told their records.
+    /// Notifies the observers, and expects how many get records.
     Notify(usize),
-    /// So many pending observers are taken.
+    /// Takes the pending observers, and expects how many there are.
     TakePending(usize),
-    /// An observer is told so many records in its turn.
+    /// Notifies one observer in its turn, and expects how many records it gets.
     TellInTurn(u32, usize),
     Disconnect(u32),
-    /// From then on there is none of that number, and no number is given out anew.
+    /// Releases an observer. Its number does not exist from then on, and is not reused.
     Release(u32),
-    /// The observer that was made last is released.
+    /// Releases the observer that was made last.
     ReleaseLast,
 }
 
-/// What holds of the observers.
+/// An expected state of the observers.
 #[derive(Clone, Copy)]
 pub enum Fact {
-    /// So many numbers were given out.
+    /// How many numbers were given.
     Made(usize),
-    /// The observer of a number is there.
+    /// Whether an observer exists.
     Held(u32, bool),
     /// How many observers and registrations there are.
     Counts(usize, usize),
-    /// Whether no observer watches anything.
+    /// Whether there are no registrations.
     Idle(bool),
-    /// The observer in a place of the pending list.
+    /// The observer at an index of the pending list.
     Pending(usize, Option<u32>),
-    /// Whether observers, or records that wait for them, name a node.
+    /// Whether observers, or their queued records, refer to a node.
     Named(u32, bool),
-    /// So many records wait for an observer. They are taken.
+    /// How many records are queued for an observer. They are taken.
     Waiting(u32, usize),
-    /// At most one record waits for an observer. It is taken.
+    /// At most one record is queued for an observer. It is taken.
     AtMostOne(u32),
-    /// One record waits for an observer, of that node and with that old value. It is taken.
+    /// One record is queued for an observer, with a target and an old value. It is taken.
     One(u32, u32, &'static str),
 }
 
 /// A row of a scene.
 #[derive(Clone, Copy)]
 pub enum Row {
-    /// A call is made, and takes no memory or what it takes is not refused.
+    /// Makes a call that takes no memory, or whose memory is not refused.
     Once(Call),
-    /// A call is made, and made again where memory is wanting.
+    /// Makes a call, and repeats it if it is out of memory.
     Do(Call),
-    /// A call is made, and may be refused for want of memory.
+    /// Makes a call, which may be out of memory.
     Try(Call),
-    /// A call is made where the last one that was tried was refused.
+    /// Makes a call if the last tried call was refused.
     Again(Call),
-    /// All this holds then.
+    /// Expects all these facts.
     Then(When, &'static [Fact]),
 }
 
-/// When facts are to hold.
+/// The condition on which facts are expected.
 #[derive(Clone, Copy, PartialEq, Eq)]
 pub enum When {
     Always,
-    /// Where the last call that was tried was refused.
+    /// The last tried call was refused.
     Refused,
 }
 
-/// Rows that are played so many times.
+/// Rows that are played this many times.
 pub type Part = (u32, &'static [Row]);
 
-// The observer of a number, which is held.
+// Returns the observer with a number, and asserts that it exists.
 fn observer(rt: &impl Abort, observers: &Observers, number: u32) -> ObserverId
     ensures { IsSome (queue_in observers.now result) }
 {
@@ -110,7 +110,7 @@ fn observer(rt: &impl Abort, observers: &Observers, number: u32) -> ObserverId
     observer
 }
 
-// Makes one more observer.
+// Makes an observer.
 fn make(rt: &impl Abort, observers: &mut Observers) -> Result<(), AllocError> {
     let made = observers.made();
     assert!(rt; made < 10_000);
@@ -126,7 +126,7 @@ fn make(rt: &impl Abort, observers: &mut Observers) -> Result<(), AllocError> {
     }
 }
 
-// Texts of their own.
+// Returns copies of texts.
 fn owned(alloc: Global, texts: &[&str]) -> Result<Vec<String>, AllocError> {
     let mut owned = Vec::new(alloc);
     for text in texts {
@@ -135,7 +135,7 @@ fn owned(alloc: Global, texts: &[&str]) -> Result<Vec<String>, AllocError> {
     Ok(owned)
 }
 
-// Options by which that is watched.
+// Returns the options that observe these changes.
 fn options(alloc: Global, watched: Watched) -> Result<RawOptions, AllocError> {
     let mut given = nothing();
     match watched {
@@ -149,7 +149,7 @@ fn options(alloc: Global, watched: Watched) -> Result<RawOptions, AllocError> {
     Ok(given)
 }
 
-// An observer watches a node.
+// Registers an observer on a node.
 fn watch(
     rt: &impl Abort,
     observers: &mut Observers,
@@ -168,7 +168,7 @@ fn watch(
     }
 }
 
-// Observer 0 watches the children of each of so many nodes.
+// Registers observer 0 for the children of each of `count` nodes.
 fn watch_each(
     rt: &impl Abort,
     observers: &mut Observers,
@@ -183,7 +183,7 @@ fn watch_each(
     Ok(())
 }
 
-// The data of a node changes.
+// Changes the data of a node.
 fn change_data(
     rt: &impl Abort,
     observers: &mut Observers,
@@ -207,7 +207,7 @@ fn change_data(
     observers.queue(tree, &mutation)
 }
 
-// An attribute of a node changes.
+// Changes an attribute of a node.
 fn change_attribute(
     rt: &impl Abort,
     observers: &mut Observers,
@@ -230,14 +230,14 @@ fn change_attribute(
     observers.queue(tree, &mutation)
 }
 
-// Node 1 leaves node 0.
+// Removes node 1 from node 0.
 fn leave(rt: &impl Abort, observers: &mut Observers, tree: &Tree<u8>) -> Result<(), AllocError> {
     let top = NodeId::new(0);
     assert!(rt; tree.holds(top));
     observers.transients(tree, top, NodeId::new(1))
 }
 
-// A record of node 1 that left node 0.
+// Queues the record of the removal of node 1 from node 0.
 fn tell_of_leaving(
     rt: &impl Abort,
     observers: &mut Observers,
@@ -258,14 +258,14 @@ fn tell_of_leaving(
     observers.queue(tree, &mutation)
 }
 
-// So many observers are told their records.
+// Notifies the observers, and asserts how many get records.
 fn notify(rt: &impl Abort, observers: &mut Observers, count: usize) -> Result<(), AllocError> {
     let told = observers.notify()?;
     assert_eq!(rt; told.len(), count);
     Ok(())
 }
 
-// So many pending observers are taken.
+// Takes the pending observers, and asserts how many there are.
 fn take_pending(
     rt: &impl Abort,
     observers: &mut Observers,
@@ -276,19 +276,19 @@ fn take_pending(
     Ok(())
 }
 
-// An observer is told so many records in its turn.
+// Notifies an observer in its turn, and asserts how many records it gets.
 fn tell_in_turn(rt: &impl Abort, observers: &mut Observers, number: u32, count: usize) {
     let observer = observer(rt, observers, number);
     assert_eq!(rt; observers.tell(observer).len(), count);
 }
 
-// An observer watches nothing any more.
+// Disconnects an observer.
 fn disconnect(rt: &impl Abort, observers: &mut Observers, number: u32) {
     let observer = observer(rt, observers, number);
     observers.disconnect(observer);
 }
 
-// Lets an observer go: there is none of its number any more.
+// Releases an observer, and asserts that its number does not exist.
 fn release(rt: &impl Abort, observers: &mut Observers, number: u32) {
     let observer = observer(rt, observers, number);
     let made = observers.made();
@@ -297,7 +297,7 @@ fn release(rt: &impl Abort, observers: &mut Observers, number: u32) {
     assert_eq!(rt; observers.made(), made);
 }
 
-// The number given out last.
+// Returns the last number given.
 fn last(rt: &impl Abort, observers: &Observers) -> u32 {
     let made = observers.made();
     assert!(rt; 0 < made && made < 10_000);
@@ -340,7 +340,7 @@ fn taken(rt: &impl Abort, observers: &mut Observers, number: u32) -> Vec<Record>
     observers.take(observer)
 }
 
-// That this is one record, of that target and with that old value.
+// Asserts that there is one record, with a target and an old value.
 fn expect_one(rt: &impl Abort, records: &[Record], target: u32, old: &str) {
     assert_eq!(rt; records.len(), 1);
     let record = &records[0];
@@ -353,13 +353,13 @@ fn expect_one(rt: &impl Abort, records: &[Record], target: u32, old: &str) {
     }
 }
 
-// The number of the observer in a place of the pending list.
+// Returns the number of the observer at an index of the pending list.
 fn pending(observers: &Observers, index: usize) -> Option<u32> {
     let observer = observers.pending(index)?;
     Some(observer.number())
 }
 
-// That a fact holds.
+// Asserts a fact.
 fn expect(rt: &impl Abort, observers: &mut Observers, tree: &Tree<u8>, fact: &Fact) {
     match *fact {
         Fact::Made(made) => assert_eq!(rt; observers.made(), made),
@@ -385,14 +385,14 @@ fn expect(rt: &impl Abort, observers: &mut Observers, tree: &Tree<u8>, fact: &Fa
     }
 }
 
-// That all of these hold, one after the other.
+// Asserts facts in order.
 fn expect_all(rt: &impl Abort, observers: &mut Observers, tree: &Tree<u8>, facts: &[Fact]) {
     for fact in facts {
         expect(rt, observers, tree, fact);
     }
 }
 
-// Plays a row. It is noted whether the last call that was tried was refused.
+// Plays a row, and stores whether the last tried call was refused.
 fn play_row(
     rt: &impl Abort,
     observers: &mut Observers,
@@ -428,7 +428,7 @@ fn play_row(
     }
 }
 
-// Plays rows, one after the other.
+// Plays rows in order.
 fn play_rows(
     rt: &impl Abort,
     observers: &mut Observers,
@@ -443,7 +443,7 @@ fn play_rows(
     Ok(())
 }
 
-// Plays rows so many times.
+// Plays rows this many times.
 fn play_part(
     rt: &impl Abort,
     observers: &mut Observers,
@@ -458,7 +458,7 @@ fn play_part(
     Ok(())
 }
 
-// A root of that number, at the second try where a growth is refused.
+// Makes the root with a number; if memory is refused, it tries once more.
 fn root(rt: &impl Abort, tree: &mut Tree<u8>, number: u32) -> Result<(), AllocError> {
     assert!(rt; tree.made() < 10);
     let label = Label::nameless(Kind::Text);
@@ -489,7 +489,7 @@ fn play(
     Ok(())
 }
 
-/// Plays a scene with observers and a tree of its own. It alone lets go of them, which is dear to prove.
+/// Plays a scene with observers and a tree of its own. Only this function drops them, because that takes long to prove.
 pub(crate) fn played(rt: &impl Abort, alloc: Global, parts: &[Part]) -> Result<(), Fail> {
     let mut tree = Tree::new(alloc);
     let mut observers = Observers::new(alloc);

@@ -1,9 +1,10 @@
-//! Observers where each growth may be refused. What a refused call leaves is asked, and then the call is made again.
+//! Observers whose allocations may be refused. The tests check the state that a refused call left, and repeat the call.
 
 use crate::scenes::{Call, Fact, Part, Row, Watched, When, played};
 use std::test::Fail;
 
-// Makes observer 0, which watches what is below node 0. Where the one is refused, there is none; where the other is, it watches nothing.
+// Makes observer 0, and registers it for the data of node 0 and its descendants. If the first call is refused, there is no observer; if the second
+// is, it has no registration.
 const BEGIN: Part = (
     1,
     &[
@@ -19,10 +20,10 @@ const BEGIN: Part = (
     ],
 );
 
-// Node 1 leaves node 0.
+// Removes node 1 from node 0.
 const LEAVE: Part = (1, &[Row::Do(Call::Leave)]);
 
-// The data of node 0 changes. Where the record is refused, there may be one all the same.
+// Changes the data of node 0. If it is refused, one record may be queued nevertheless.
 const CHANGE_THE_TOP: Part = (
     1,
     &[
@@ -32,7 +33,7 @@ const CHANGE_THE_TOP: Part = (
     ],
 );
 
-// The same of node 1.
+// Changes the data of node 1. If it is refused, one record may be queued nevertheless.
 const CHANGE: Part = (
     1,
     &[
@@ -60,7 +61,7 @@ fn a_record_is_queued(rt: HostRuntime) -> Result<(), Fail> {
     played(&rt, rt.alloc(), A_RECORD_IS_QUEUED)
 }
 
-// The observer is told of node 1 until it was told once. Where that is refused, it waits on.
+// The observer gets records of node 1 until it is notified once. If that is refused, they stay queued.
 const A_NODE_THAT_LEFT_IS_TOLD_OF_ONCE: &[Part] = &[
     BEGIN,
     LEAVE,
@@ -81,7 +82,7 @@ fn a_node_that_left_is_told_of_once(rt: HostRuntime) -> Result<(), Fail> {
     played(&rt, rt.alloc(), A_NODE_THAT_LEFT_IS_TOLD_OF_ONCE)
 }
 
-// The pending observers are taken. Where that is refused, they are pending still.
+// Takes the pending observers. If that is refused, they are still pending.
 const TAKE_PENDING: Part = (
     1,
     &[
@@ -92,7 +93,7 @@ const TAKE_PENDING: Part = (
     ],
 );
 
-// The observer is told of node 1 in its turn, and hears of it no more.
+// The observer is notified of node 1 in its turn, and not afterwards.
 const AN_OBSERVER_IS_TOLD_IN_ITS_TURN: &[Part] = &[
     BEGIN,
     LEAVE,
@@ -108,7 +109,7 @@ fn an_observer_is_told_in_its_turn(rt: HostRuntime) -> Result<(), Fail> {
     played(&rt, rt.alloc(), AN_OBSERVER_IS_TOLD_IN_ITS_TURN)
 }
 
-// A record waits for its turn while all who are pending are told, and names its node until then.
+// A record stays queued for its turn while all pending observers are notified, and refers to its node until then.
 const A_RECORD_WAITS_FOR_ITS_TURN: &[Part] = &[
     BEGIN,
     LEAVE,
@@ -130,7 +131,7 @@ fn a_record_waits_for_its_turn(rt: HostRuntime) -> Result<(), Fail> {
     played(&rt, rt.alloc(), A_RECORD_WAITS_FOR_ITS_TURN)
 }
 
-// A registration names its node, and a transient one its own node too, until the observer is told.
+// A registration refers to its node. A transient one refers to its own node too, until the observer is notified.
 const WHAT_REGISTRATIONS_NAME: Part = (
     1,
     &[
@@ -142,7 +143,7 @@ const WHAT_REGISTRATIONS_NAME: Part = (
     ],
 );
 
-// A record names the nodes that it tells of, until it is taken. The observer watches the children of node 0 in place of what it watched.
+// A record refers to its nodes until it is taken. The observer observes the children of node 0 instead of its earlier options.
 const WHAT_RECORDS_NAME: Part = (
     1,
     &[
@@ -168,8 +169,8 @@ fn what_is_named(rt: HostRuntime) -> Result<(), Fail> {
     played(&rt, rt.alloc(), parts)
 }
 
-// Nine observers watch what is below node 0: so many that their registrations above a node are more than the few of which each is looked for
-// among those on the node.
+// Nine observers observe the descendants of node 0. So a node has more registrations of ancestors than the few that are looked up one by one among
+// its own.
 const BEGIN_MANY: Part = (
     1,
     &[
@@ -195,7 +196,7 @@ const BEGIN_MANY: Part = (
     ],
 );
 
-// Where a record is refused, some of them may have it all the same.
+// If it is refused, some of them may have the record nevertheless.
 const AT_MOST_ONE_EACH: &[Fact] = &[
     Fact::AtMostOne(0),
     Fact::AtMostOne(1),
@@ -232,7 +233,7 @@ const NONE_EACH: &[Fact] = &[
     Fact::Waiting(8, 0),
 ];
 
-// The data of node 1 changes.
+// Changes the data of node 1.
 const CHANGE_FOR_MANY: Part = (
     1,
     &[
@@ -242,7 +243,7 @@ const CHANGE_FOR_MANY: Part = (
     ],
 );
 
-// Node 1 leaves node 0 twice. Each of the observers is told of it once, and of none once all were told.
+// Removes node 1 from node 0 twice. Each observer is notified of the change once, and of none after all were notified.
 const A_NODE_LEAVES_MANY: &[Part] = &[
     BEGIN_MANY,
     (2, &[Row::Do(Call::Leave)]),
@@ -263,8 +264,8 @@ fn a_node_leaves_many(rt: HostRuntime) -> Result<(), Fail> {
     played(&rt, rt.alloc(), A_NODE_LEAVES_MANY)
 }
 
-// Observers come and go, and no number is given out twice: each of so many is made and released; then two are made, of which the second goes into
-// the place of the first.
+// Observers are made and released, and no number is reused. Each of two thousand is made and released. Then two are made, and the second moves into
+// the slot of the first.
 const NUMBERS_ARE_NOT_USED_AGAIN: &[Part] = &[
     (2_000, &[Row::Do(Call::Make), Row::Once(Call::ReleaseLast)]),
     (
@@ -288,7 +289,7 @@ fn numbers_are_not_used_again(rt: HostRuntime) -> Result<(), Fail> {
     played(&rt, rt.alloc(), NUMBERS_ARE_NOT_USED_AGAIN)
 }
 
-// Observer 0 is released while it watches, has a transient registration and a record, and is pending: nothing is left of it.
+// Releases observer 0 while it has a registration, a transient one and a record, and is pending. Nothing is left of it.
 const A_RELEASED_ONE_IS_TOLD_NOTHING: &[Part] = &[
     BEGIN,
     LEAVE,
@@ -327,8 +328,8 @@ fn a_released_one_is_told_nothing(rt: HostRuntime) -> Result<(), Fail> {
     played(&rt, rt.alloc(), A_RELEASED_ONE_IS_TOLD_NOTHING)
 }
 
-// Of many pending observers one is released: the others are told in the order in which they became pending, each one record. Where that is
-// refused, these wait on.
+// Releases one of many pending observers. The others are notified in the order in which they became pending, of one record each. If that is refused,
+// the records stay queued.
 const THE_OTHERS_ARE_TOLD_IN_ORDER: &[Part] = &[
     BEGIN_MANY,
     (
@@ -358,8 +359,8 @@ fn the_others_are_told_in_order(rt: HostRuntime) -> Result<(), Fail> {
     played(&rt, rt.alloc(), THE_OTHERS_ARE_TOLD_IN_ORDER)
 }
 
-// Of the observers of one node some are disconnected, from the middle, the front and the end of its list, and one of these comes again. They are told
-// in the order in which they came. Where a record is refused, some may have it all the same.
+// Disconnects some observers of a node, from the middle, the front and the end of its list, and registers one of them again. The observers are
+// notified in the order of their registrations. If it is refused, some may have the record nevertheless.
 const SOME_LET_GO_OF_A_NODE: &[Part] = &[
     BEGIN_MANY,
     (
@@ -393,7 +394,7 @@ fn some_let_go_of_a_node(rt: HostRuntime) -> Result<(), Fail> {
     played(&rt, rt.alloc(), SOME_LET_GO_OF_A_NODE)
 }
 
-// Observer 0 watches attributes of node 0 by two names, and observer 1 by ten, of which two are given twice.
+// Registers observer 0 for attributes of node 0 with two names, and observer 1 with ten, two of them given twice.
 const BEGIN_BY_NAMES: Part = (
     1,
     &[
@@ -409,7 +410,7 @@ const BEGIN_BY_NAMES: Part = (
     ],
 );
 
-// Each is told of the names that it gave, the first and the last of them, and of those that it gave twice; and of no other.
+// Each is notified of its names, including the first, the last and those given twice, and of no others.
 const NAMES_ARE_FOUND: &[Part] = &[
     BEGIN_BY_NAMES,
     (

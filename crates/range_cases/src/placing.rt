@@ -1,4 +1,4 @@
-//! Live ranges that are made at points that are checked; and one alone, whose ends are known, that changes of the tree adjust.
+//! Live ranges that are made at checked points, and a single one with known ends, which changes of the tree adjust.
 
 ghost use Rattle.std.specs.Prelude.{◌≡◌, [], ◌∷◌, ◌++◌, Some, true, false, IfOk};
 ghost use Rattle.std.specs.declared.cmp.Ordering.TheVariants.{Greater};
@@ -19,7 +19,7 @@ use std::cmp::Ordering;
 use std::process::Abort;
 use std::test::Fail;
 
-// Whether the first of two points of one root comes after the second.
+// Returns whether the first of two points of one root comes after the second.
 fn is_after(tree: &Tree<Units>, a: Point, b: Point) -> bool
     requires a_held { HasNode tree.now.forest a.node }
     requires b_held { HasNode tree.now.forest b.node }
@@ -32,7 +32,7 @@ fn is_after(tree: &Tree<Units>, a: Point, b: Point) -> bool
     }
 }
 
-// Whether a node is a doctype.
+// Returns whether a node is a doctype.
 fn is_doctype(tree: &Tree<Units>, id: NodeId) -> bool
     requires { HasNode tree.now.forest id }
     ensures { result ≡ is_of_kind DocumentType tree.now.forest id }
@@ -40,7 +40,7 @@ fn is_doctype(tree: &Tree<Units>, id: NodeId) -> bool
     tree.label(id).kind == Kind::DocumentType
 }
 
-// Whether a point is a boundary point of a tree.
+// Returns whether a point is a boundary point of a tree.
 fn stands(tree: &Tree<Units>, p: Point) -> bool
     ensures { result ≡ true → IsBoundaryIn (λ (u : Units). u.0) tree.now.forest p }
 {
@@ -50,7 +50,7 @@ fn stands(tree: &Tree<Units>, p: Point) -> bool
     p.offset <= tree.length(p.node)
 }
 
-// Makes a live range of that number, in nodes that are covered, or are now; what the ranges are then is said.
+// Makes a live range, covering the nodes if necessary, and returns whether its number is the expected one.
 pub(crate) fn placed(
     ranges: &mut Ranges,
     tree: &Tree<Units>,
@@ -77,7 +77,7 @@ pub(crate) fn placed(
     Ok(ranges.make(tree, start, end)? == RangeId::new(due))
 }
 
-// root [ a [ b ] t u ], numbered in this order, with ten units in t and six in u.
+// The tree root [ a [ b ] t u ], numbered in this order, with ten units in t and six in u.
 const WITH_TEXTS: &[Grown] = &[
     (Kind::Element, None, 0),
     (Kind::Element, Some(0), 0),
@@ -95,14 +95,14 @@ fn grow_with_texts(rt: &impl Abort, tree: &mut Tree<Units>) -> Result<(), AllocE
     Ok(())
 }
 
-// The same alone.
+// Returns that tree.
 fn with_texts(rt: &impl Abort, alloc: Global) -> Result<Tree<Units>, AllocError> {
     let mut tree = Tree::new(alloc);
     grow_with_texts(rt, &mut tree)?;
     Ok(tree)
 }
 
-// A live range alone, numbered 0, and room for ends in a thousand nodes.
+// Returns ranges with a single one, numbered 0, and room for ends in a thousand nodes.
 fn alone(
     rt: &impl Abort,
     alloc: Global,
@@ -120,7 +120,7 @@ fn alone(
     Ok(ranges)
 }
 
-// The same, and the mark.
+// Returns ranges with a single one, and marks where code that takes no memory begins.
 fn ready(
     rt: &impl Abort,
     alloc: Global,
@@ -136,7 +136,7 @@ fn ready(
     Ok(ranges)
 }
 
-// That the range has come to these ends, and the second mark.
+// Asserts the ends of the range, and marks where code that takes no memory ends.
 fn has_come(rt: &impl Abort, alloc: Global, ranges: &Ranges, start: Place, end: Place) {
     assert!(rt; ranges.holds(RangeId::new(0)));
     assert!(rt; ranges.ends(RangeId::new(0)) == (at(start), at(end)));

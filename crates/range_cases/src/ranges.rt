@@ -1,4 +1,4 @@
-//! Live ranges over a small tree, step by step: made, read, set anew, released over and over; and room that is refused.
+//! Live ranges over a small tree, step by step: made, read, set again, and released many times; and refused room.
 use super::placing::placed;
 use super::playing::expect;
 use super::trees::{Grown, Place, Units, at, grow};
@@ -10,50 +10,50 @@ use growth_marks::{Act, begins, ends};
 use std::alloc::{AllocError, Global};
 use std::test::Fail;
 
-// What is done at a turn, or what is due then, with the range or the node of that number.
+// A call at a turn with the range or the node of that number, or an expected state.
 enum Step {
-    // The node comes into the tree.
+    // Makes the node.
     Grow(Grown),
-    // There is room for ends in so many nodes.
+    // Reserves room for ends in this many nodes.
     Cover(u64),
-    // Whether there is room for ends in the node.
+    // Expects whether there is room for ends in the node.
     Covered(bool),
-    // Whether an end stands in the node.
+    // Expects whether an end is in the node.
     StandsIn(bool),
-    // Whether one stands in it or in a node under it.
+    // Expects whether an end is in the node or in a descendant.
     Refers(bool),
-    // The node leaves its parent.
+    // Adjusts the ranges for the removal of the node.
     Leave,
-    // The nodes of the tree are forgotten, in which no end stands.
+    // Forgets the nodes of a tree without ends.
     Forget,
-    // The range is made from one place to the other.
+    // Makes the range between two places.
     Make(Place, Place),
-    // It has these ends.
+    // Expects its ends.
     Lies(Place, Place),
-    // It has those that its number tells.
+    // Expects the ends that follow from its number.
     LiesByNumber,
-    // Its start is set, or its end; whether that is done.
+    // Sets its start or its end, and expects whether that succeeds.
     SetStart(Place, bool),
     SetEnd(Place, bool),
-    // It is released.
+    // Releases it.
     Release,
-    // Whether it is there.
+    // Expects whether it exists.
     Held(bool),
-    // So many were made, and so many are there.
+    // Expects how many were made, and how many there are.
     Made(u64, usize),
-    // One is made where its number tells, and released.
+    // Makes a range with the ends that follow from its number, and releases it.
     ComeAndGo,
-    // One is made where its number tells, and where ten more are there the first of them is released.
+    // Makes a range with the ends that follow from its number. If ten older ones exist, releases the first of them.
     TakeTurn,
-    // What comes between these takes no memory.
+    // Marks steps that take no memory.
     Begins,
     Ends,
 }
 
-// The first turn, the one that ends them, and what is done at each of them.
+// The first turn, the turn after the last, and the step for each turn.
 type Row = (u32, u32, Step);
 
-// Makes room; where the growth is refused it tries once more.
+// Reserves room; if memory is refused, it tries once more.
 fn cover(ranges: &mut Ranges, count: u64) -> Result<bool, AllocError> {
     if count > 4294967295 {
         return Ok(false);
@@ -71,7 +71,7 @@ fn lies(ranges: &Ranges, r: RangeId, start: Point, end: Point) -> bool {
     ranges.holds(r) && ranges.ends(r) == (start, end)
 }
 
-// Where the range of a number starts and ends, where many are made: from a unit of the Text 3 to its last.
+// Returns the ends of a range by its number, for tests that make many: from a unit of the Text 3 to its last.
 fn by_number(number: u32) -> (Point, Point) {
     (at((3, number as usize % 10)), at((3, 10)))
 }
@@ -89,7 +89,7 @@ fn release(ranges: &mut Ranges, r: RangeId) -> bool {
     !ranges.holds(r)
 }
 
-// Sets one end of a range; none where the range or the place is not there.
+// Sets one end of a range; none if the range or the place does not exist.
 fn set(
     ranges: &mut Ranges,
     tree: &mut Tree<Units>,
@@ -114,7 +114,7 @@ fn set(
     }
 }
 
-// A node leaves its parent, which is covered.
+// Adjusts the ranges for the removal of a node with a covered parent.
 fn leave(ranges: &mut Ranges, tree: &Tree<Units>, node: NodeId) -> bool {
     if !tree.holds(node) {
         return false;
@@ -166,7 +166,7 @@ fn take_turn(ranges: &mut Ranges, tree: &Tree<Units>, number: u32) -> Result<boo
     }
 }
 
-// Whether what is asked is as it is due.
+// Returns whether the expected state is there.
 fn is_due(ranges: &Ranges, tree: &Tree<Units>, turn: u32, step: &Step) -> bool {
     let node = NodeId::new(turn);
     let r = RangeId::new(turn);
@@ -182,7 +182,7 @@ fn is_due(ranges: &Ranges, tree: &Tree<Units>, turn: u32, step: &Step) -> bool {
     }
 }
 
-// What changes ranges; whether all is as it is due.
+// Changes the ranges, and returns whether the outcome is the expected one.
 fn change(ranges: &mut Ranges, tree: &mut Tree<Units>, turn: u32, step: &Step) -> bool {
     let node = NodeId::new(turn);
     let r = RangeId::new(turn);
@@ -229,7 +229,7 @@ impl Act for Step {
     }
 }
 
-// A thousand nodes are covered, and then ten of them again.
+// Covers a thousand nodes, and then ten of them again.
 const ROOM: &[Row] = &[
     (0, 1, Step::Cover(1000)),
     (0, 1, Step::Cover(10)),
@@ -246,7 +246,7 @@ fn room_for_nodes(rt: HostRuntime) -> Result<(), Fail> {
     expect(&rt, rt.alloc(), ROOM)
 }
 
-// Room in more nodes than a document of the other tests has, at one call.
+// Reserves room in more nodes than a document of the other tests, in one call.
 const FIVE_MILLION: &[Row] = &[
     (0, 1, Step::Cover(5_000_001)),
     (5_000_000, 5_000_001, Step::Covered(true)),
@@ -258,7 +258,7 @@ fn room_for_five_million_nodes(rt: HostRuntime) -> Result<(), Fail> {
     expect(&rt, rt.alloc(), FIVE_MILLION)
 }
 
-// Where the first growth is refused there is no room, and the next try makes it.
+// If the first call is refused memory, there is no room, and the next call reserves it.
 const REFUSED: &[Row] = &[
     (0, 1, Step::Cover(1000)),
     (0, 1, Step::Made(0, 0)),
@@ -274,7 +274,7 @@ fn refused_room(rt: HostRuntime) -> Result<(), Fail> {
     expect(&rt, rt.alloc(), REFUSED)
 }
 
-// 0 [ 1 [ 2 ] 3 ], where a range from inside 1 to behind it is made and released.
+// The tree 0 [ 1 [ 2 ] 3 ], with a range from inside 1 to behind it, which is made and released.
 const MADE_AND_RELEASED: &[Row] = &[
     (0, 1, Step::Grow((Kind::Element, None, 0))),
     (1, 2, Step::Grow((Kind::Element, Some(0), 0))),
@@ -291,7 +291,7 @@ const MADE_AND_RELEASED: &[Row] = &[
     (0, 1, Step::Made(1, 0)),
 ];
 
-// 1 leaves, and what was inside it goes to where it stood.
+// Removes 1. The end inside it moves to its place.
 const REMOVED: &[Row] = &[
     (0, 1, Step::Grow((Kind::Element, None, 0))),
     (1, 2, Step::Grow((Kind::Element, Some(0), 0))),
@@ -302,8 +302,8 @@ const REMOVED: &[Row] = &[
     (0, 1, Step::Lies((0, 0), (0, 1))),
 ];
 
-// 0 [ 1 [ 99 children, from 2 on ] 101 ], where more nodes stand inside 1 than there are ends. Of three ranges one stands in the last children
-// of 1, one from the first child to behind 1, and one in 101; and 1 leaves.
+// The tree 0 [ 1 [ 99 children, from 2 on ] 101 ], with more nodes inside 1 than there are ends. One range is in the last children of 1, one from the
+// first child to behind 1, and one in 101. Then 1 is removed.
 const REMOVED_WITH_MANY_INSIDE: &[Row] = &[
     (0, 1, Step::Grow((Kind::Element, None, 0))),
     (1, 2, Step::Grow((Kind::Element, Some(0), 0))),
@@ -321,8 +321,8 @@ const REMOVED_WITH_MANY_INSIDE: &[Row] = &[
     (1, 2, Step::Refers(false)),
 ];
 
-// root [ a [ b ] t u ], numbered in this order, with ten units in t and six in u. A range is made and released over and over, beside one that
-// stays: two hundred come and go. Each has the next number and ends of its own, and the table of ends does not grow.
+// The tree root [ a [ b ] t u ], numbered in this order, with ten units in t and six in u. Two hundred ranges are made and released, besides one that
+// stays. Each gets the next number and ends of its own, and the table of ends does not grow.
 const MADE_AGAIN_AND_AGAIN: &[Row] = &[
     (0, 1, Step::Grow((Kind::Element, None, 0))),
     (1, 2, Step::Grow((Kind::Element, Some(0), 0))),
@@ -334,8 +334,8 @@ const MADE_AGAIN_AND_AGAIN: &[Row] = &[
     (0, 1, Step::Made(201, 1)),
 ];
 
-// Over the same tree ranges are made and released by turns, ten of them live at a time, over more numbers than a page has. Each starts where
-// its number says.
+// In the same tree ranges are made and released in turn, ten of them live at a time, over more numbers than a page has. Each starts at the place that
+// follows from its number.
 const MADE_BY_TURNS: &[Row] = &[
     (0, 1, Step::Grow((Kind::Element, None, 0))),
     (1, 2, Step::Grow((Kind::Element, Some(0), 0))),
@@ -349,8 +349,8 @@ const MADE_BY_TURNS: &[Row] = &[
     (2_990, 3_000, Step::LiesByNumber),
 ];
 
-// Over the same tree two ranges are released, the first before the second, so that each was in the last slot or had the last one come into its
-// slot. Three that are made later have slots of their own.
+// In the same tree two ranges are released, the first before the second. So each is in the last slot, or the last one moves into its slot. Three
+// ranges that are made later have slots of their own.
 const MADE_IN_RELEASED_SLOTS: &[Row] = &[
     (0, 1, Step::Grow((Kind::Element, None, 0))),
     (1, 2, Step::Grow((Kind::Element, Some(0), 0))),
@@ -385,7 +385,7 @@ fn scenes(rt: HostRuntime) -> Result<(), Fail> {
     Ok(())
 }
 
-// An end that comes to stand on the other's wrong side takes it along, and one past the length is refused.
+// An end that passes the other moves that along, and an end past the length is refused.
 const SET_ANEW: &[Row] = &[
     (0, 1, Step::Grow((Kind::Element, None, 0))),
     (1, 2, Step::Grow((Kind::Element, Some(0), 0))),
@@ -411,8 +411,8 @@ fn set_anew(rt: HostRuntime) -> Result<(), Fail> {
     expect(&rt, rt.alloc(), SET_ANEW)
 }
 
-// The nodes of a tree in which no end stands are forgotten, and stay so when nodes are covered again; twice the same. Those of another tree,
-// the node 5 alone, stay.
+// The nodes of a tree without ends are forgotten, and stay forgotten if nodes are covered again; twice. Those of another tree, the node 5, stay
+// covered.
 const FORGOTTEN: &[Row] = &[
     (0, 1, Step::Grow((Kind::Element, None, 0))),
     (1, 2, Step::Grow((Kind::Element, Some(0), 0))),

@@ -1,4 +1,4 @@
-//! Static ranges over a small tree, step by step: made, read, asked for by node, and released; and many that come and go.
+//! Static ranges over a small tree, step by step: made, read, looked up by node and released, and many that are made and released.
 use super::playing::expect;
 use super::trees::{Grown, Place, Units, at, grow};
 use dom_kinds::Kind;
@@ -8,32 +8,32 @@ use growth_marks::{Act, begins, ends};
 use std::alloc::{AllocError, Global};
 use std::test::Fail;
 
-// What is done at a turn, or what is due then, with the static range or the node of that number.
+// A call at a turn with the static range or the node of that number, or an expected state.
 enum Step {
-    // The node comes into the tree.
+    // Makes the node.
     Grow(Grown),
-    // The static range is made from one place to the other.
+    // Makes the static range between two places.
     Make(Place, Place),
-    // It is made in the node of the next number, at one point.
+    // Makes it in the node of the next number, with both ends at one point.
     MakeCaret,
-    // It has these ends.
+    // Expects its ends.
     Lies(Place, Place),
-    // That of so many times the number of the turn and so much more is released.
+    // Releases the one whose number is the turn times the first number, plus the second.
     Release(u32, u32),
-    // One is made in the node of its number, and released.
+    // Makes one in the node of its number, and releases it.
     ComeAndGo,
-    // Whether it is there.
+    // Expects whether it exists.
     Held(bool),
-    // So many were made, and so many are there.
+    // Expects how many were made, and how many there are.
     Made(u64, usize),
-    // Whether an end stands in the node or in one under it.
+    // Expects whether an end is in the node or in a descendant.
     Refers(bool),
-    // What comes between these takes no memory.
+    // Marks steps that take no memory.
     Begins,
     Ends,
 }
 
-// The first turn, the one that ends them, and what is done at each of them.
+// The first turn, the turn after the last, and the step for each turn.
 type Row = (u32, u32, Step);
 
 fn make(statics: &mut Statics, start: Place, end: Place, due: u32) -> Result<bool, AllocError> {
@@ -59,7 +59,7 @@ fn refers(statics: &Statics, tree: &Tree<Units>, node: NodeId, due: bool) -> boo
     tree.holds(node) && statics.refers(tree, node) == due
 }
 
-// Whether what is asked is as it is due.
+// Returns whether the expected state is there.
 fn is_due(statics: &Statics, tree: &Tree<Units>, turn: u32, step: &Step) -> bool {
     let u = StaticId::new(turn);
     match step {
@@ -71,7 +71,7 @@ fn is_due(statics: &Statics, tree: &Tree<Units>, turn: u32, step: &Step) -> bool
     }
 }
 
-// A static range in this node, from its front to this offset.
+// Makes a static range in a node, from its start to an offset.
 fn make_in(statics: &mut Statics, node: u32, end: usize, due: u32) -> Result<bool, AllocError> {
     make(statics, (node, 0), (node, end), due)
 }
@@ -117,7 +117,7 @@ impl Act for Step {
     }
 }
 
-// A static range is made, and stays where it was put.
+// A static range keeps its ends.
 const ONE_IS_KEPT: &[Row] = &[
     (0, 1, Step::Made(0, 0)),
     (0, 1, Step::Make((3, 4), (5, 6))),
@@ -127,7 +127,7 @@ const ONE_IS_KEPT: &[Row] = &[
     (0, 1, Step::Lies((3, 4), (5, 6))),
 ];
 
-// Of four the first, the last and one of the others are released, and one more is made: it has the next number.
+// Of four ranges the first, the last and another are released. One more is made, and gets the next number.
 const ONE_STAYS: &[Row] = &[
     (0, 4, Step::MakeCaret),
     (0, 1, Step::Release(1, 0)),
@@ -145,7 +145,8 @@ const ONE_STAYS: &[Row] = &[
     (4, 5, Step::Lies((9, 1), (9, 2))),
 ];
 
-// A node is named until the last end in it goes: 0 [ 1 [ 2 ] 3 ], where two static ranges have ends in 2, one of them both, and the other one in 3.
+// A node is referred to until its last end is released. In 0 [ 1 [ 2 ] 3 ], one static range has both ends in 2. Another has one end in 2, and one
+// in 3.
 const ENDS_IN_ONE_NODE: &[Row] = &[
     (0, 1, Step::Grow((Kind::Element, None, 0))),
     (1, 2, Step::Grow((Kind::Element, Some(0), 0))),
@@ -160,7 +161,7 @@ const ENDS_IN_ONE_NODE: &[Row] = &[
     (0, 4, Step::Refers(false)),
 ];
 
-// Of a tree with more nodes than there are ends, one end after another goes.
+// In a tree with more nodes than there are ends, one end after another is released.
 const MORE_NODES_THAN_ENDS: &[Row] = &[
     (0, 1, Step::Grow((Kind::Element, None, 0))),
     (1, 2, Step::Grow((Kind::Element, Some(0), 0))),
@@ -187,7 +188,7 @@ fn scenes(rt: HostRuntime) -> Result<(), Fail> {
     Ok(())
 }
 
-// All of a hundred are released, every second one from the first on, and then the others.
+// Releases all of a hundred ranges, first every second one, and then the others.
 const WITHOUT_A_GROWTH: &[Row] = &[
     (0, 100, Step::MakeCaret),
     (0, 1, Step::Begins),
@@ -201,7 +202,7 @@ fn released_without_a_growth(rt: HostRuntime) -> Result<(), Fail> {
     expect(&rt, rt.alloc(), WITHOUT_A_GROWTH)
 }
 
-// A static range is made and released a million times, in one node after another, beside one that stays.
+// Makes and releases a static range a million times, in one node after another, besides one that stays.
 const MILLION: &[Row] = &[
     (0, 1, Step::Make((0, 1), (0, 2))),
     (1, 1_000_001, Step::ComeAndGo),

@@ -1,4 +1,4 @@
-//! The trees of tests of ranges: elements, and Texts of some length.
+//! The trees of tests of ranges: elements, and Texts of given lengths.
 
 ghost use Rattle.std.specs.Prelude.{◌≡◌};
 
@@ -8,7 +8,7 @@ use dom_tree::{Body, NodeId, Tree};
 use std::alloc::{AllocError, Global};
 use tree_steps::{made, put};
 
-// A node with so many units of data.
+// A node's data, as its number of units.
 #[derive(Drop)]
 pub(crate) struct Units(usize);
 
@@ -20,10 +20,10 @@ impl Body for Units {
     }
 }
 
-// The kind of a new node, the parent that it is the last child of, if any, and how many units it has.
+// The kind of a new node, its parent if it is appended to one, and its number of units.
 pub(crate) type Grown = (Kind, Option<u32>, usize);
 
-// Makes such a node. It has that number.
+// Makes a node, and returns whether its number is the expected one.
 pub(crate) fn grow(tree: &mut Tree<Units>, due: u32, grown: &Grown) -> Result<bool, AllocError> {
     let (kind, parent, units) = *grown;
     let id = made(tree, Label::nameless(kind), Units(units), None)?;

@@ -1,4 +1,4 @@
-//! Large trees: chains of elements that are printed, copied, compared and drawn by ranges, many paragraphs that are taken out and put back.
+//! Large trees: chains of elements that are printed, copied, compared and drawn by ranges, and many paragraphs that are removed and inserted again.
 
 use crate::written::{Part, Piece, are_answered};
 use std::test::Fail;
@@ -58,7 +58,7 @@ fn a_chain_of_elements(rt: HostRuntime) -> Result<(), Fail> {
     Ok(())
 }
 
-// A chain of elements whose last holds a Text, copied; and what is asked of both.
+// A chain of elements with a Text in the last one, which is copied, and queries of both.
 const COPY: &[Part] = &[
     Part {
         times: 1,
@@ -117,7 +117,7 @@ fn a_chain_copied_and_compared(rt: HostRuntime) -> Result<(), Fail> {
     Ok(())
 }
 
-// A Text in a chain of elements, and what lies from within that Text to behind the chain: copied, and taken out.
+// A Text in a chain of elements. The contents from inside that Text to behind the chain are cloned and extracted.
 const DRAW: &[Part] = &[
     Part {
         times: 1,
@@ -153,7 +153,7 @@ const DRAW: &[Part] = &[
     },
 ];
 
-// Each element on the way makes a copy and a fragment, and the Text a copy.
+// Each element of the chain makes a clone and a fragment, and the Text a clone.
 const DRAWN: &[Part] = &[
     Part {
         times: 1,
@@ -189,7 +189,7 @@ fn a_chain_cloned_and_extracted(rt: HostRuntime) -> Result<(), Fail> {
     Ok(())
 }
 
-// Paragraphs that are taken out by a range, put back and deleted.
+// Paragraphs that a range extracts, that are inserted again, and deleted.
 const PARAGRAPHS: &[Part] = &[
     Part {
         times: 1,

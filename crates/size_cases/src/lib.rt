@@ -1,4 +1,4 @@
-//! The tests of large trees, long texts and long lines, told by what repeats in them.
+//! The tests of large trees, long texts and long lines, given by their repeated pieces.
 #![tactic(auto)]
 
 #[cfg(test)]

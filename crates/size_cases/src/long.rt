@@ -1,4 +1,4 @@
-//! A long Text that grows unit by unit, an element with many attributes, lines of a million bytes.
+//! A long Text that grows unit by unit, an element with many attributes, and lines of a million bytes.
 
 use crate::written::{Part, Piece, are_answered};
 use std::test::Fail;
@@ -117,7 +117,7 @@ fn units_at_the_start_of_a_long_text(rt: HostRuntime) -> Result<(), Fail> {
     Ok(())
 }
 
-// Many attributes of one element, the first of which is removed.
+// Many attributes of one element. The first one is removed.
 const ATTRIBUTES: &[Part] = &[
     Part {
         times: 1,

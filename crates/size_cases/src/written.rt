@@ -1,27 +1,27 @@
-//! Long inputs and outputs, told by what repeats in them.
+//! Long inputs and outputs, given by their repeated pieces.
 
 use dom_serve::Summary;
 use stated_pieces::{USUAL, in_pieces, serve_all};
 use std::alloc::{AllocError, Global};
 use std::process::Abort;
 
-/// A piece of a text that is written several times.
+/// A piece of a repeated text.
 #[derive(Drop)]
 pub enum Piece {
-    /// The same each time.
+    /// The same text each time.
     Text(&'static str),
-    /// A number: the first one, and by how much it grows from time to time.
+    /// A number: the first one, and how much it grows each time.
     Number(u32, u32),
 }
 
-/// Pieces, and how often they are written, one after another.
+/// Pieces, and how often they are repeated.
 #[derive(Drop)]
 pub struct Part {
     pub times: u32,
     pub pieces: &'static [Piece],
 }
 
-// Adds a piece as it is at a time, from 0 on.
+// Appends a piece in its form at a time, from 0 on.
 fn put_piece(text: &mut String, alloc: Global, piece: &Piece, time: u32) -> Result<(), AllocError> {
     match piece {
         Piece::Text(same) => text.push_str(same),
@@ -33,7 +33,7 @@ fn put_piece(text: &mut String, alloc: Global, piece: &Piece, time: u32) -> Resu
     }
 }
 
-// Adds these pieces as they are at a time.
+// Appends pieces in their form at a time.
 fn put_pieces(
     text: &mut String,
     alloc: Global,
@@ -46,7 +46,7 @@ fn put_pieces(
     Ok(())
 }
 
-// Adds a part, as often as it is told.
+// Appends a part, repeated.
 fn put_part(text: &mut String, alloc: Global, part: &Part) -> Result<(), AllocError> {
     for time in 0..part.times {
         put_pieces(text, alloc, part.pieces, time)?;
@@ -54,7 +54,7 @@ fn put_part(text: &mut String, alloc: Global, part: &Part) -> Result<(), AllocEr
     Ok(())
 }
 
-// The text of these parts.
+// Returns the text of parts.
 fn written(alloc: Global, parts: &[Part]) -> Result<String, AllocError> {
     let mut text = String::new(alloc);
     for part in parts {
@@ -63,7 +63,7 @@ fn written(alloc: Global, parts: &[Part]) -> Result<String, AllocError> {
     Ok(text)
 }
 
-/// That these lines, so many, are answered so.
+/// Asserts the output for some input lines.
 pub(crate) fn are_answered(
     rt: &impl Abort,
     alloc: Global,

@@ -1,28 +1,28 @@
-//! A reader of stated pieces.
+//! A reader that gives its bytes in pieces.
 
 ghost use Rattle.std.specs.Prelude.{◌≡◌, ◌++◌, Some, length, min, take, drop};
 ghost use Rattle.std.specs.Io.KnownBytes.{Consumes, Keeps};
 
 use dom_serve::{Failed, Source};
 
-/// A reader that gives its bytes in pieces. One read may fail, and later ones read on.
+/// A reader that gives its bytes in pieces. One read may fail, and later ones succeed.
 #[derive(Drop)]
 pub struct Feeder<'a> {
     /// The bytes that are left.
     pub rest: &'a [u8],
-    /// No read goes past the first so many bytes of those; none where that is 0.
+    /// No read goes past this many of those bytes; 0 is no limit.
     pub cut: usize,
-    /// The most bytes that a read gives; 0 is taken for 1.
+    /// The most bytes of a read; 0 counts as 1.
     pub most: usize,
-    /// How many reads are made ahead of the one that fails.
+    /// How many reads succeed before the one that fails.
     pub reads: u64,
-    /// Whether that one was made.
+    /// Whether a read has failed.
     pub failed: bool,
-    /// How many reads were made after it.
+    /// How many reads followed it.
     pub later: u64,
 }
 
-// Copies as many bytes as both have, and says how many.
+// Copies as many bytes as both have, and returns how many.
 fn copy_front(from: &[u8], to: &mut [u8]) -> usize
     ensures count { result ≡ min (length from.now) (length to.old) }
     ensures copied { to.new ≡ take result from.now ++ drop result to.old }

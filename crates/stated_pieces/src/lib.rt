@@ -1,4 +1,4 @@
-//! A reader and a writer of stated pieces, and serving over them, for the tests of dialogues, streams, drawn texts and sizes.
+//! A reader and a writer that work in given pieces, and serving over them, for the tests of dialogues, streams, drawn texts and sizes.
 #![tactic(auto)]
 
 mod feeder;

@@ -1,4 +1,4 @@
-//! Serving over the reader and the writer of stated pieces.
+//! Serving over the reader and the writer of this crate.
 
 ghost use Rattle.std.specs.Prelude.{◌≤◌};
 
@@ -6,13 +6,13 @@ use crate::{Feeder, Taker};
 use dom_serve::{Fault, Limits, Summary, serve};
 use std::alloc::Global;
 
-/// The limits where none are given.
+/// The default limits.
 pub const USUAL: Limits = Limits {
     numbers: 4294967295,
     line: 1048576,
 };
 
-/// A reader that gives all bytes in pieces of at most so many.
+/// Returns a reader that gives all bytes in pieces of at most `most`.
 pub fn in_pieces(bytes: &[u8], most: usize) -> Feeder<'_> {
     Feeder {
         rest: bytes,
@@ -24,7 +24,7 @@ pub fn in_pieces(bytes: &[u8], most: usize) -> Feeder<'_> {
     }
 }
 
-/// A writer that takes all bytes.
+/// Returns a writer that takes all bytes.
 pub fn all_taken(alloc: Global) -> Taker {
     Taker {
         taken: Vec::new(alloc),
@@ -37,16 +37,16 @@ pub fn all_taken(alloc: Global) -> Taker {
     }
 }
 
-/// How serving ended, and what was written.
+/// The outcome of serving, and the written bytes.
 #[derive(Drop)]
 pub struct Served {
     pub ended: Result<Summary, Fault>,
     pub written: Vec<u8>,
-    /// Whether no read was made after one that failed, and all that was written was passed on.
+    /// Whether no read followed a failed one, and all written bytes were flushed.
     pub is_clean: bool,
 }
 
-/// Serves the reader, to a writer that takes all bytes.
+/// Serves the reader to a writer that takes all bytes.
 pub fn serve_all(alloc: Global, limits: Limits, mut reader: Feeder<'_>) -> Served
     requires numbers { (1 ≤ limits.numbers) × (limits.numbers ≤ 4294967295) }
     requires line { 1 ≤ limits.line }
@@ -60,7 +60,7 @@ pub fn serve_all(alloc: Global, limits: Limits, mut reader: Feeder<'_>) -> Serve
     }
 }
 
-/// The front of a text, up to and with its first so many newlines.
+/// Returns the first `count` lines of a text.
 pub fn first_lines(text: &[u8], count: usize) -> &[u8] {
     let mut left = count;
     for (at, byte) in text.iter().enumerate() {
@@ -74,7 +74,7 @@ pub fn first_lines(text: &[u8], count: usize) -> &[u8] {
     text
 }
 
-/// How many newlines there are.
+/// Returns the number of newlines.
 pub fn newlines(text: &[u8]) -> usize {
     text.iter().filter(|byte| **byte == b'\n').count()
 }

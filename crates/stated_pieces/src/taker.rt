@@ -1,31 +1,31 @@
-//! A writer of stated pieces.
+//! A writer that takes its bytes in pieces.
 
 ghost use Rattle.std.specs.Prelude.{◌≡◌, ℕ, List, Some};
 ghost use Rattle.std.specs.Io.KnownBytes.{Appends, Keeps};
 
 use dom_serve::{Failed, Sink};
 
-/// A writer that takes its bytes in pieces. One write and one flush may fail, and later ones work.
+/// A writer that takes its bytes in pieces. One write and one flush may fail, and later ones succeed.
 #[derive(Drop)]
 pub struct Taker {
     /// The bytes that it took.
     pub taken: Vec<u8>,
     /// Whether it was flushed after the last write.
     pub flushed: bool,
-    /// The most bytes that a write takes; 0 is taken for 1.
+    /// The most bytes of a write; 0 counts as 1.
     pub most: usize,
-    /// How many writes are made ahead of the one that fails.
+    /// How many writes succeed before the one that fails.
     pub writes: u64,
-    /// How many flushes are made ahead of the one that fails.
+    /// How many flushes succeed before the one that fails.
     pub flushes: u64,
     /// Whether a write or a flush has failed.
     pub failed: bool,
-    /// How many writes and flushes were made after that.
+    /// How many writes and flushes followed it.
     pub later: u64,
 }
 
 impl Taker {
-    // Counts a call that is made after one that failed; says whether this one is the first to fail, of which so many are made ahead.
+    // Counts a call after a failed one. Returns whether this call is the first to fail, if `ahead` calls succeed before that.
     fn fails_at(&mut self, ahead: u64) -> bool
         ensures taken { self.new.taken ≡ self.old.taken }
     {

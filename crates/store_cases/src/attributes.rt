@@ -1,4 +1,4 @@
-//! Examples of attributes: set in place or last, taken out, compared as sets, copied, and twenty thousand of them. Each is a list of rows.
+//! Attributes that are set, removed, compared as sets and copied, and twenty thousand of them. Each test is a list of rows.
 use super::playing::expect;
 use dom_attrs::Attrs;
 use dom_units::Units;
@@ -7,36 +7,36 @@ use std::alloc::{AllocError, Global};
 use std::mem::swap;
 use std::test::Fail;
 
-// What is done at a turn, or what is due then. A value is told by its units; none stands for no attribute.
+// A call at a turn, or an expected state. A value is given by its units; `None` stands for no attribute.
 enum Step {
-    // There are no attributes any more.
+    // Replaces the attributes by an empty list.
     New,
-    // The attributes are copied to others, over what was there.
+    // Copies the attributes over the others.
     Copy,
-    // The others take their place, and they that of the others.
+    // Swaps the attributes and the others.
     Swap,
-    // An attribute of this name is set, where that one was.
+    // Sets an attribute, and expects the old value.
     Set(&'static str, &'static [u16], Option<&'static [u16]>),
-    // One is taken out.
+    // Removes an attribute, and expects its value.
     Remove(&'static str, Option<&'static [u16]>),
-    // One is there, or is not.
+    // Expects the value of an attribute.
     Get(&'static str, Option<&'static [u16]>),
-    // At the number of the turn there is this one.
+    // Expects the attribute at the index of the turn.
     At(&'static str, &'static [u16]),
-    // There are so many.
+    // Expects the number of attributes.
     Len(usize),
-    // Whether they are the same as the others, both ways.
+    // Expects whether both are the same, in both directions.
     Same(bool),
-    // One whose name and value tell the number of the turn is set. There was none.
+    // Sets a new attribute with a name and a value made from the turn.
     SetNumbered,
-    // It is there.
+    // Expects that attribute.
     GetNumbered,
 }
 
-// The first turn, the one that ends them, and what is done at each of them.
+// The first turn, the turn after the last, and the step for each turn.
 type Row = (u32, u32, Step);
 
-// Whether a value is the one that is due.
+// Returns whether a value is the expected one.
 fn is_value(found: Option<&Units>, due: Option<&[u16]>) -> bool {
     match found {
         Some(units) => match due {
@@ -58,7 +58,7 @@ fn set(
     attrs.set(name, value)
 }
 
-// Sets an attribute, and tells what was there. Where the growth is refused all is as it was, and the next try sets it.
+// Sets an attribute, and compares the old value. If memory is refused, nothing has changed, and it sets the attribute again.
 fn set_at_last(
     alloc: Global,
     attrs: &mut Attrs,
@@ -85,7 +85,7 @@ fn is_at(attrs: &Attrs, index: usize, name: &str, value: &[u16]) -> bool {
     }
 }
 
-// The name of the attribute of that number.
+// Returns the name of an attribute by number.
 fn name_of(alloc: Global, number: u32) -> Result<String, AllocError> {
     format!(in alloc; "data-{number}")
 }
@@ -110,7 +110,7 @@ fn has_len(attrs: &Attrs, len: usize) -> bool {
     attrs.len() == len && attrs.is_empty() == (len == 0) && attrs.at(len).is_none()
 }
 
-// Attributes, and others beside them.
+// Attributes, and others to compare with.
 #[derive(Drop)]
 struct Both {
     attrs: Attrs,
@@ -132,7 +132,7 @@ fn exchange(both: &mut Both) -> bool {
     true
 }
 
-// Whether what is asked is as it is due.
+// Returns whether the expected state is there.
 fn is_due(both: &Both, turn: u32, step: &Step) -> bool {
     let attrs = &both.attrs;
     match step {
@@ -170,7 +170,7 @@ impl Act for Step {
     }
 }
 
-// The texts 1 to 5.
+// The texts "1" to "5".
 const ONE: &[u16] = &[49];
 
 const TWO: &[u16] = &[50];
@@ -181,7 +181,7 @@ const FOUR: &[u16] = &[52];
 
 const FIVE: &[u16] = &[53];
 
-// There are none, some are set, each over those before it, and the first of these is taken out.
+// Starts without attributes, sets three, one of them twice, and removes the first.
 const SET_AND_TAKEN_OUT: &[Row] = &[
     (0, 1, Step::Len(0)),
     (0, 1, Step::Get("k", None)),
@@ -215,7 +215,7 @@ fn set_in_place_or_last_and_taken_out(rt: HostRuntime) -> Result<(), Fail> {
     expect(&rt, rt.alloc(), SET_AND_TAKEN_OUT)
 }
 
-// One of five leaves, and comes again as the last. The first leaves, and stays in a copy.
+// Removes one of five attributes, and adds it again as the last. Removes the first, which stays in a copy.
 const ORDER: &[Row] = &[
     (0, 1, Step::Set("b", ONE, None)),
     (0, 1, Step::Set("a", TWO, None)),
@@ -256,7 +256,7 @@ fn the_order_stays(rt: HostRuntime) -> Result<(), Fail> {
     expect(&rt, rt.alloc(), ORDER)
 }
 
-// None beside none, and then others beside a=1, b=2.
+// Compares two empty lists, and then others with a=1, b=2.
 const COMPARED: &[Row] = &[
     (0, 1, Step::Same(true)),
     (0, 1, Step::Set("a", ONE, None)),
@@ -291,7 +291,7 @@ fn compared_as_sets(rt: HostRuntime) -> Result<(), Fail> {
     expect(&rt, rt.alloc(), COMPARED)
 }
 
-// A call that is refused leaves the attributes as they were.
+// Expects that a refused call leaves the attributes unchanged.
 const TWELVE: &[Row] = &[
     (0, 1, Step::Set("a", &[], None)),
     (0, 1, Step::Get("a", Some(&[]))),
@@ -324,7 +324,7 @@ fn refused_growth(rt: HostRuntime) -> Result<(), Fail> {
     expect(&rt, rt.alloc(), TWELVE)
 }
 
-// All are set and found, and a copy is the same.
+// Sets and finds all, and compares a copy.
 const TWENTY_THOUSAND: &[Row] = &[
     (0, 20_000, Step::SetNumbered),
     (0, 1, Step::Len(20_000)),

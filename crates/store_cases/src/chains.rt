@@ -1,44 +1,44 @@
-//! Examples of items with keys: those of a key are found, an item goes from one key to another, and the last gets the number of one that goes. Each is a
-//! list of rows.
+//! Items in buckets by key: items are found by key, get other keys, and are removed, so that the last gets the number of the removed one. Each test
+//! is a list of rows.
 use super::playing::expect;
 use dom_chains::{Chains, HeadsInList, HeadsInPages};
 use growth_marks::{Act, begins, ends};
 use std::alloc::{AllocError, Global};
 use std::test::Fail;
 
-// What is done at a turn, or what is due then.
+// A call at a turn, or an expected state.
 enum Step {
-    // The keys below are covered.
+    // Covers the keys below this one.
     Cover(u32),
-    // The turn comes as an item of this key, in room that is made.
+    // Reserves room, and adds the turn as an item with this key.
     Add(u32),
-    // The item of the turn goes to this key.
+    // Gives the item with the number of the turn this key.
     Place(u32),
-    // The number of the turn is taken out.
+    // Removes the item with the number of the turn.
     Remove,
-    // The key of the turn is forgotten.
+    // Forgets the key of the turn.
     Forget,
-    // So many items are there.
+    // Expects the number of items.
     Count(usize),
-    // The number of the turn has this key and item.
+    // Expects the key and the item of the number of the turn.
     Item(Option<(u32, u32)>),
-    // This is some item of the key of the turn.
+    // Expects this as an item with the key of the turn.
     First(Option<usize>),
-    // Whether this item has the key of the turn.
+    // Expects whether this item has the key of the turn.
     Has(u32, bool),
-    // Whether the key of the turn is covered.
+    // Expects whether the key of the turn is covered.
     Covered(bool),
-    // What comes between these takes no memory.
+    // Marks steps that take no memory.
     Begins,
     Ends,
 }
 
-// The first turn, the one that ends them, and what is done at each of them.
+// The first turn, the turn after the last, and the step for each turn.
 type Row = (u32, u32, Step);
 
 type Ends = Chains<u32, HeadsInPages>;
 
-// Where the growth is refused no key more is covered, and the next try covers them.
+// Covers keys. If memory is refused, no more keys are covered, and it covers them again.
 fn cover(chains: &mut Ends, made: u32) -> Result<bool, AllocError> {
     let was = chains.is_covered(made.saturating_sub(1));
     if chains.cover(u64::from(made)).is_err() {
@@ -50,7 +50,7 @@ fn cover(chains: &mut Ends, made: u32) -> Result<bool, AllocError> {
     Ok(true)
 }
 
-// Where the growth is refused no item came, and the next try makes the room.
+// Adds an item. If memory is refused, no item was added, and it reserves the room again.
 fn add(chains: &mut Ends, key: u32, item: u32) -> Result<bool, AllocError> {
     let count = chains.count();
     if count >= 1_000_000 || !chains.is_covered(key) {
@@ -118,7 +118,7 @@ impl Act for Step {
     }
 }
 
-// Five items of three keys: one goes to another key and back, one is taken out, and a key with no item is forgotten.
+// Five items with three keys: one gets another key, one is removed, and a key without items is forgotten.
 const FROM_KEY_TO_KEY: &[Row] = &[
     (0, 1, Step::Count(0)),
     (0, 1, Step::Covered(false)),
@@ -157,7 +157,7 @@ fn from_key_to_key(rt: HostRuntime) -> Result<(), Fail> {
     expect(&rt, rt.alloc(), FROM_KEY_TO_KEY)
 }
 
-// Items go to other keys and are taken out, and keys are forgotten, without a growth.
+// Changes keys, removes items and forgets keys, without taking memory.
 const CHAINS_WITHOUT_A_GROWTH: &[Row] = &[
     (0, 1, Step::Cover(2_000)),
     (0, 1_500, Step::Add(7)),
@@ -177,7 +177,7 @@ fn chains_without_a_growth(rt: HostRuntime) -> Result<(), Fail> {
     expect(&rt, rt.alloc(), CHAINS_WITHOUT_A_GROWTH)
 }
 
-// So many keys in a list, with no items. Where the growth is refused the next try makes them.
+// Returns a list of keys without items. If memory is refused, it tries again.
 fn listed(alloc: Global, count: usize) -> Result<Chains<u32, HeadsInList>, AllocError> {
     let count = count.min(1_000_000);
     match Chains::<u32, HeadsInList>::of(alloc, count) {

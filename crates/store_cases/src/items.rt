@@ -1,4 +1,4 @@
-//! Examples of items that come with numbers and are released: each lies in a slot, and the last comes into the slot of one that goes. Each is a list of
+//! Items by number that are added and released: each has a slot, and the last item moves into the slot of a released one. Each test is a list of
 //! rows.
 use super::playing::expect;
 use dom_slots::Slotted;
@@ -6,28 +6,28 @@ use growth_marks::{Act, begins, ends};
 use std::alloc::{AllocError, Global};
 use std::test::Fail;
 
-// What is done at a turn, or what is due then.
+// A call at a turn, or an expected state.
 enum Step {
-    // Room is made for so many more items.
+    // Reserves room for more items.
     Room(usize),
-    // The turn comes as an item, with its own number.
+    // Adds the turn as an item, whose number is the turn.
     Make,
-    // The number of the turn is released. It has this slot.
+    // Releases the number of the turn, and expects its slot.
     Release(usize),
-    // So many numbers were given out, and so many items are there.
+    // Expects how many numbers were given, and how many items there are.
     Made(u64, usize),
-    // This item lies in the slot of the turn.
+    // Expects the item in the slot of the turn.
     Item(u32),
-    // This is the item of the number of the turn.
+    // Expects the item with the number of the turn.
     Get(Option<u32>),
-    // Another item comes into the slot of the turn.
+    // Replaces the item in the slot of the turn.
     Put(u32),
-    // What comes between these takes no memory.
+    // Marks steps that take no memory.
     Begins,
     Ends,
 }
 
-// The first turn, the one that ends them, and what is done at each of them.
+// The first turn, the turn after the last, and the step for each turn.
 type Row = (u32, u32, Step);
 
 fn reserve(items: &mut Slotted<u32>, additional: usize) -> Result<bool, AllocError> {
@@ -38,7 +38,7 @@ fn reserve(items: &mut Slotted<u32>, additional: usize) -> Result<bool, AllocErr
     Ok(true)
 }
 
-// An item comes with the next number. Where the growth is refused all is as it was, and the next try makes the room.
+// Adds an item with the next number. If memory is refused, nothing has changed, and it reserves the room again.
 fn make(items: &mut Slotted<u32>, item: u32) -> Result<bool, AllocError> {
     let (made, count) = (items.made(), items.count());
     if made >= 1_000_000 {
@@ -91,7 +91,7 @@ impl Act for Step {
     }
 }
 
-// The last item comes into the slot of the one that goes, and no number comes again.
+// The last item moves into the slot of the released one, and no number is reused.
 const THE_LAST_COMES: &[Row] = &[
     (0, 1, Step::Made(0, 0)),
     (0, 1, Step::Get(None)),
@@ -119,7 +119,7 @@ fn the_last_comes(rt: HostRuntime) -> Result<(), Fail> {
     expect(&rt, rt.alloc(), THE_LAST_COMES)
 }
 
-// In room that is there items come, are read and go.
+// Adds, reads and releases items within reserved room.
 const ITEMS_WITHOUT_A_GROWTH: &[Row] = &[
     (0, 1500, Step::Make),
     (0, 1, Step::Room(1)),

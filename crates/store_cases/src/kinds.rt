@@ -1,4 +1,4 @@
-//! Examples of names at the edges of the rules, of numbers, names and codes, and of a copied label.
+//! Names at the edges of the rules, node types, names and codes of exceptions, and a copied label.
 use super::playing::expect;
 use dom_kinds::{
     DomError, Exception, Kind, Label, NodeType, is_attribute_name, is_doctype_name, is_element_name,
@@ -8,7 +8,7 @@ use std::alloc::{AllocError, Global};
 use std::mem::size_of;
 use std::test::Fail;
 
-// What a name may be.
+// The use of a name.
 enum Naming {
     Element,
     Attribute,
@@ -23,7 +23,7 @@ fn allows(naming: &Naming, name: &str) -> bool {
     }
 }
 
-// A label with that name and, of a doctype, with that public id; the system id is empty.
+// Returns a label with a name and, for a doctype, a public id; the system id is empty.
 fn labelled(alloc: Global, kind: Kind, name: &str, public_id: &str) -> Result<Label, AllocError> {
     if kind != Kind::DocumentType {
         return Label::named(alloc, kind, name);
@@ -40,22 +40,22 @@ fn has(label: &Label, kind: Kind, name: &str, public_id: &str) -> bool {
         && label.system_id() == ""
 }
 
-// Whether a label and a copy of it have what it was made with.
+// Returns whether a label and its copy have the given texts.
 fn is_copied(alloc: Global, kind: Kind, name: &str, public_id: &str) -> Result<bool, AllocError> {
     let label = labelled(alloc, kind, name, public_id)?;
     let copy = label.try_clone(alloc)?;
     Ok(has(&label, kind, name, public_id) && has(&copy, kind, name, public_id))
 }
 
-// What is asked of names and labels.
+// Checks of names and labels.
 enum Step {
-    // Whether that name is allowed.
+    // Expects whether a name is valid.
     Name(Naming, &'static str, bool),
-    // A label of that kind, with that name and that public id, and a copy of it.
+    // Makes a label with a kind, a name and a public id, and checks a copy.
     Label(Kind, &'static str, &'static str),
-    // The name of a node of a kind that has none of its own.
+    // Expects the `nodeName` of a kind without names of its own.
     NodeName(Kind, &'static str),
-    // What comes between these takes no memory.
+    // Marks steps that take no memory.
     Begins,
     Ends,
 }
@@ -76,10 +76,10 @@ impl Act for Step {
     }
 }
 
-// The first turn, the one that ends them, and what is asked.
+// The first turn, the turn after the last, and the check for each turn.
 type Row = (u32, u32, Step);
 
-// A name, and whether it may be that.
+// Names, each with a use, and whether it is valid.
 const NAMES: &[Row] = &[
     (0, 1, Step::Name(Naming::Element, "a", true)),
     (0, 1, Step::Name(Naming::Element, "Z", true)),
@@ -177,7 +177,7 @@ fn copied_labels(rt: HostRuntime) -> Result<(), Fail> {
     expect(&rt, rt.alloc(), COPIED)
 }
 
-// Names of up to 8 bytes lie in the label.
+// Names of up to 8 bytes are stored inline.
 const SHORT: &[Row] = &[
     (0, 1, Step::Begins),
     (0, 1, Step::Label(Kind::Element, "", "")),

@@ -1,4 +1,4 @@
-//! Slots that are linked, cut, taken and taken again, and the memory under them. Each test is a list of rows.
+//! Slots that are linked, unlinked, emptied and filled again, and the memory of their nodes. Each test is a list of rows.
 use super::playing::expect;
 use dom_links::{Links, Node, Slot};
 use growth_marks::{Act, begins, ends};
@@ -6,37 +6,37 @@ use std::alloc::{AllocError, Global};
 use std::mem::size_of;
 use std::test::Fail;
 
-// What is done at a turn with the slot of that number, or what is due then.
+// A call at a turn with the slot of that number, or an expected state.
 enum Step {
-    // A value comes into the slot: the number of the turn and so much more.
+    // Adds the sum of the turn and this number as the slot's value.
     Add(u32),
-    // The same value is taken out of it.
+    // Empties the slot, and expects that value.
     Take(u32),
-    // The slot comes under this one, before that one or last.
+    // Inserts the slot under a parent before another slot, or as the last.
     Put(u32, Option<u32>),
-    // It leaves its parent.
+    // Removes it from its parent.
     Cut,
-    // Its value is set.
+    // Sets its value.
     Set(u32),
-    // It has the same value, the number of the turn and so much more.
+    // Expects the sum of the turn and this number as its value.
     Value(u32),
-    // Whether it is held.
+    // Expects whether it is held.
     Held(bool),
-    // It has so many children, and this is the first and that the last.
+    // Expects its number of children, the first and the last.
     Children(usize, Option<u32>, Option<u32>),
-    // It stands under this one, between these.
+    // Expects its parent, and the siblings before and after it.
     Stands(u32, Option<u32>, Option<u32>),
-    // It stands under this one, between the slots of the last number and of the next.
+    // Expects this parent, and the slots of the previous and the next number as siblings.
     InRow(u32),
-    // What comes between these takes no memory.
+    // Marks steps that take no memory.
     Begins,
     Ends,
 }
 
-// The first turn, the one that ends them, and what is done at each of them.
+// The first turn, the turn after the last, and the step for each turn.
 type Row = (u32, u32, Step);
 
-// Adds a value. Where the growth is refused the value comes back, and the next try takes it.
+// Adds a value. If memory is refused, the value is returned, and it adds it again.
 fn add(links: &mut Links<u32>, value: u32, due: Slot) -> Result<bool, AllocError> {
     match links.add(value) {
         Ok(slot) => Ok(slot == due),
@@ -59,7 +59,7 @@ fn take(links: &mut Links<u32>, slot: Slot, due: u32) -> bool {
     links.take(slot) == due
 }
 
-// Links a child that has no children of its own.
+// Inserts a child without children of its own.
 fn put(links: &mut Links<u32>, parent: Slot, child: Slot, before: Option<Slot>) -> bool {
     if parent == child || !links.holds(parent) || !links.holds(child) {
         return false;
@@ -136,7 +136,7 @@ fn slot_if(number: Option<u32>) -> Option<Slot> {
     }
 }
 
-// Whether what is asked of a slot is as it is due.
+// Returns whether the expected state of a slot is there.
 fn is_due(links: &Links<u32>, turn: u32, step: &Step) -> bool {
     let slot = slot_at(turn);
     match step {
@@ -185,7 +185,7 @@ impl Act for Step {
     }
 }
 
-// Four slots: one for the parent, and three for the children that come and go.
+// Four slots: a parent, and three children that are inserted and removed.
 const ORDER_OF_CHILDREN: &[Row] = &[
     (0, 4, Step::Add(10)),
     (1, 2, Step::Put(0, None)),
@@ -225,7 +225,7 @@ fn order_of_children(rt: HostRuntime) -> Result<(), Fail> {
     expect(&rt, rt.alloc(), ORDER_OF_CHILDREN)
 }
 
-// The last slot that became free comes first, and one of its own once none is free.
+// The slot emptied last is filled first. If none is free, a new one is made.
 const TAKEN_SLOTS: &[Row] = &[
     (0, 3, Step::Add(1)),
     (0, 2, Step::Take(1)),
@@ -244,7 +244,7 @@ fn taken_slots_come_again(rt: HostRuntime) -> Result<(), Fail> {
     expect(&rt, rt.alloc(), TAKEN_SLOTS)
 }
 
-// A thousand nodes, each with its number, are put under one, cut and taken out, and the last slot comes again.
+// A thousand nodes with numbers as values are inserted under one, removed and taken, and the slot emptied last is filled again.
 const THOUSAND: &[Row] = &[
     (0, 1_000, Step::Add(0)),
     (1_000, 1_001, Step::Add(4_000)),
@@ -265,7 +265,7 @@ fn a_thousand_children(rt: HostRuntime) -> Result<(), Fail> {
     expect(&rt, rt.alloc(), THOUSAND)
 }
 
-// All nodes stand before the first link.
+// All nodes are made before the first link.
 const WITHOUT_A_GROWTH: &[Row] = &[
     (0, 1_000, Step::Add(0)),
     (1_000, 1_001, Step::Add(4_000)),
@@ -286,7 +286,7 @@ fn a_thousand_links_without_a_growth(rt: HostRuntime) -> Result<(), Fail> {
     expect(&rt, rt.alloc(), WITHOUT_A_GROWTH)
 }
 
-// Where a growth is refused the value comes back, and the next try takes it.
+// If memory is refused, the value is returned, and adding it again succeeds.
 const REFUSED: &[Row] = &[(0, 1_000, Step::Add(0))];
 
 #[test]
@@ -294,7 +294,7 @@ fn a_refused_add_hands_the_value_back(rt: HostRuntime) -> Result<(), Fail> {
     expect(&rt, rt.alloc(), REFUSED)
 }
 
-// More slots than a document of the other tests has.
+// More slots than a document of the other tests.
 const FIVE_MILLION: &[Row] = &[(0, 5_000_001, Step::Add(0))];
 
 #[test]
@@ -302,7 +302,7 @@ fn five_million_slots(rt: HostRuntime) -> Result<(), Fail> {
     expect(&rt, rt.alloc(), FIVE_MILLION)
 }
 
-// Two items, the second under the first: it is reached from the first and changed, and both are taken out.
+// Two items, the second under the first: it is reached from the first and changed, and both are taken.
 const REACHED: &[Row] = &[
     (0, 2, Step::Add(1)),
     (1, 2, Step::Put(0, None)),
@@ -319,7 +319,7 @@ fn puts_reads_changes_and_takes(rt: HostRuntime) -> Result<(), Fail> {
     expect(&rt, rt.alloc(), REACHED)
 }
 
-// Five links and two numbers of four bytes stand beside the value.
+// A node takes five links and two numbers of four bytes besides its value.
 #[test]
 fn bytes_of_a_node(rt: HostRuntime) {
     assert!(rt; size_of::<Node<u64>>() == 56);

@@ -1,36 +1,36 @@
-//! Examples of tables: numbers over three pages, pages that give their memory back, and room that is made at once. Each is a list of rows.
+//! Paged tables: numbers over three pages, pages that free their memory, and room that is reserved at once. Each test is a list of rows.
 use super::playing::expect;
 use dom_pages::Pages;
 use growth_marks::{Act, begins, ends};
 use std::alloc::{AllocError, Global};
 use std::test::Fail;
 
-// What is done at a turn, or what is due then.
+// A call at a turn, or an expected state.
 enum Step {
-    // Room is made for so many more numbers.
+    // Reserves room for more numbers.
     Room(usize),
-    // The number of the turn is given out, for itself.
+    // Gives the number of the turn, with itself as the item.
     GiveOut,
-    // It is taken back.
+    // Clears it.
     TakeBack,
-    // Both.
+    // Gives it and clears it.
     ComeAndGo,
-    // Something else is put under it.
+    // Replaces its item.
     Put(usize),
-    // So many numbers were given out.
+    // Expects how many numbers were given.
     Len(usize),
-    // This stands under the number of the turn.
+    // Expects the item of the number of the turn.
     Item(Option<usize>),
-    // The number stands under itself.
+    // Expects the number itself as its item.
     Itself,
-    // Whether the page of the turn has its memory.
+    // Expects whether the page with the index of the turn has its memory.
     Present(bool),
-    // What comes between these takes no memory.
+    // Marks steps that take no memory.
     Begins,
     Ends,
 }
 
-// The first turn, the one that ends them, and what is done at each of them.
+// The first turn, the turn after the last, and the step for each turn.
 type Row = (u32, u32, Step);
 
 fn reserve(pages: &mut Pages<usize>, additional: usize) -> Result<bool, AllocError> {
@@ -66,7 +66,7 @@ fn put(pages: &mut Pages<usize>, number: usize, item: usize) -> bool {
     true
 }
 
-// Whether the page of that index has its memory.
+// Returns whether the page with an index has its memory.
 fn is_present_at(pages: &Pages<usize>, page: usize) -> bool {
     pages.is_present(page.saturating_mul(1024))
 }
@@ -113,7 +113,7 @@ fn none_at_first(rt: HostRuntime) -> Result<(), Fail> {
     expect(&rt, rt.alloc(), NONE_AT_FIRST)
 }
 
-// The third page is in use in part. Then the first is emptied, and numbers are given out on into the fourth.
+// Uses a part of the third page. Then it clears the first page, and gives numbers into the fourth.
 const OVER_PAGES: &[Row] = &[
     (0, 2500, Step::GiveOut),
     (0, 1, Step::Len(2500)),
@@ -145,7 +145,7 @@ fn over_pages(rt: HostRuntime) -> Result<(), Fail> {
     expect(&rt, rt.alloc(), OVER_PAGES)
 }
 
-// A page gives its memory back with the last of its numbers, and a number may be taken back twice.
+// A page frees its memory with its last number, and a number may be cleared twice.
 const GIVEN_BACK: &[Row] = &[
     (0, 2048, Step::GiveOut),
     (1, 1024, Step::TakeBack),
@@ -172,7 +172,7 @@ fn given_back(rt: HostRuntime) -> Result<(), Fail> {
     expect(&rt, rt.alloc(), GIVEN_BACK)
 }
 
-// The page of the next number stays, so that giving out and taking back by turns asks for memory once a page.
+// The page of the next number stays. So giving and clearing in turn takes memory once a page.
 const BY_TURNS: &[Row] = &[
     (0, 2000, Step::ComeAndGo),
     (0, 1, Step::Len(2000)),
@@ -186,7 +186,7 @@ fn by_turns(rt: HostRuntime) -> Result<(), Fail> {
     expect(&rt, rt.alloc(), BY_TURNS)
 }
 
-// Room for many numbers is made at once.
+// Reserves room for many numbers at once.
 const ROOM: &[Row] = &[
     (0, 1, Step::GiveOut),
     (0, 1, Step::Room(1023)),
@@ -207,7 +207,7 @@ fn room(rt: HostRuntime) -> Result<(), Fail> {
     expect(&rt, rt.alloc(), ROOM)
 }
 
-// Room for more numbers than a page or four have, at one call.
+// Reserves room for many pages in one call.
 const ROOM_FOR_MANY: &[Row] = &[(0, 1, Step::Room(20_000)), (0, 19, Step::Present(true))];
 
 #[test]
@@ -215,7 +215,7 @@ fn room_for_many(rt: HostRuntime) -> Result<(), Fail> {
     expect(&rt, rt.alloc(), ROOM_FOR_MANY)
 }
 
-// In room that is there numbers are read, one is given out and changed, and most are taken back.
+// Reads numbers, gives and changes one, and clears most, within reserved room.
 const WITHOUT_A_GROWTH: &[Row] = &[
     (0, 2500, Step::GiveOut),
     (0, 1, Step::Room(1)),

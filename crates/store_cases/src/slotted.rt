@@ -1,5 +1,5 @@
-//! Examples of numbers that are given out and released: none comes again, their slots have no gaps, and items that are kept by slot stay with
-//! their numbers. Each is a list of rows.
+//! Numbers that are given and released: none is reused, their slots have no gaps, and items stored by slot stay with their numbers. Each test is a
+//! list of rows.
 
 ghost use Rattle.std.specs.Prelude.{◌≤◌};
 
@@ -9,32 +9,32 @@ use growth_marks::{Act, begins, ends};
 use std::alloc::{AllocError, Global};
 use std::test::Fail;
 
-// What is done at a turn, or what is due then.
+// A call at a turn, or an expected state.
 enum Step {
-    // Room is made for so many more numbers and their items.
+    // Reserves room for more numbers and their items.
     Room(usize),
-    // The number of the turn is given out, and comes into the last slot.
+    // Makes the number of the turn in the last slot, with its item.
     Make,
-    // So many times the number of the turn is released. It has this slot, where one is said.
+    // Releases the turn times this number, and expects its slot if one is given.
     Release(u32, Option<usize>),
-    // The number of the turn is given out and released.
+    // Makes the number of the turn, and releases it.
     ComeAndGo,
-    // So many numbers were given out, and so many of them are live.
+    // Expects how many numbers were given, and how many are live.
     Made(u64, usize),
-    // This number lies in the slot of the turn.
+    // Expects the number in the slot of the turn, with its item.
     Number(u32),
-    // A number with its item does.
+    // Expects any number in the slot of the turn, with its item.
     Item,
-    // Whether this number has a slot.
+    // Expects whether this number has a slot.
     Live(u32, bool),
-    // Whether the page of so many times the number of the turn has its memory.
+    // Expects whether the page of the turn times this number has its memory.
     Present(u32, bool),
-    // What comes between these takes no memory.
+    // Marks steps that take no memory.
     Begins,
     Ends,
 }
 
-// The first turn, the one that ends them, and what is done at each of them.
+// The first turn, the turn after the last, and the step for each turn.
 type Row = (u32, u32, Step);
 
 // Numbers, and an item for each by its slot.
@@ -44,7 +44,7 @@ struct Items {
     items: Vec<u64>,
 }
 
-// The item of a number.
+// Returns the item of a number.
 fn item_of(number: u32) -> u64 {
     u64::from(number).wrapping_mul(1_000_003)
 }
@@ -58,7 +58,7 @@ fn reserve(items: &mut Items, additional: usize) -> Result<bool, AllocError> {
     Ok(true)
 }
 
-// Gives out the next number in room that is there. It has to be this one, in this slot.
+// Makes the next number within reserved room, and returns whether it and its slot are the expected ones.
 fn make_reserved(slots: &mut Slots, due: u32, slot: usize) -> bool
     requires { 1 ≤ slots.old.room }
 {
@@ -66,7 +66,7 @@ fn make_reserved(slots: &mut Slots, due: u32, slot: usize) -> bool
     number == due && slots.slot(number) == Some(slot)
 }
 
-// The same in room that is made. Where the growth is refused all is as it was, and the next try makes the room.
+// Reserves room and makes the next number. If memory is refused, nothing has changed, and it reserves the room again.
 fn make(slots: &mut Slots, due: u32) -> Result<bool, AllocError> {
     let (made, live) = (slots.made(), slots.count());
     if made >= 1_000_000 {
@@ -84,7 +84,7 @@ fn make(slots: &mut Slots, due: u32) -> Result<bool, AllocError> {
     }
 }
 
-// Puts an item last; where the growth is refused it tries once more.
+// Appends an item; if memory is refused, it tries once more.
 fn push(items: &mut Vec<u64>, item: u64) -> Result<bool, AllocError> {
     if items.push(item).is_err() {
         items.push(item)?;
@@ -92,7 +92,7 @@ fn push(items: &mut Vec<u64>, item: u64) -> Result<bool, AllocError> {
     Ok(true)
 }
 
-// Releases a number, which has no slot then, and takes its item out.
+// Releases a number, checks that it has no slot then, and removes its item.
 fn release(items: &mut Items, number: u32, due: Option<usize>) -> bool {
     if items.slots.slot(number).is_none() {
         return false;
@@ -104,7 +104,7 @@ fn release(items: &mut Items, number: u32, due: Option<usize>) -> bool {
     items.items.swap_remove(slot) == item_of(number) && (due.is_none() || due == Some(slot))
 }
 
-// The number in a slot, where that number has the slot and its item is there.
+// Returns the number in a slot, if the number has that slot and its item is there.
 fn number_in(items: &Items, slot: usize) -> Option<u32> {
     if slot >= items.slots.count() {
         return None;
@@ -116,7 +116,7 @@ fn number_in(items: &Items, slot: usize) -> Option<u32> {
     Some(number)
 }
 
-// Whether what is asked is as it is due.
+// Returns whether the expected state is there.
 fn is_due(items: &Items, turn: u32, step: &Step) -> bool {
     let slots = &items.slots;
     match step {
@@ -133,7 +133,7 @@ fn is_due(items: &Items, turn: u32, step: &Step) -> bool {
     }
 }
 
-// The next number comes with its item.
+// Makes the next number, with its item.
 fn come(items: &mut Items, number: u32) -> Result<bool, AllocError> {
     if !make(&mut items.slots, number)? {
         return Ok(false);
@@ -169,7 +169,7 @@ impl Act for Step {
     }
 }
 
-// The last comes into the slot of the one that is released, and the next number is a new one.
+// The last number moves into the slot of the released one, and the next number is a new one.
 const NONE_COMES_AGAIN: &[Row] = &[
     (0, 1, Step::Made(0, 0)),
     (0, 1, Step::Present(1, false)),
@@ -215,8 +215,8 @@ fn none_comes_again(rt: HostRuntime) -> Result<(), Fail> {
     expect(&rt, rt.alloc(), NONE_COMES_AGAIN)
 }
 
-// Every third of three thousand is released, and of three thousand more: two thousand and then twice as many are live, without gaps, each with
-// its item.
+// Every third of three thousand numbers is released, and of three thousand more. Two thousand and then twice as many are live, without gaps, each
+// with its item.
 const ITEMS_BY_SLOT: &[Row] = &[
     (0, 3_000, Step::Make),
     (0, 1_000, Step::Release(3, None)),
@@ -235,7 +235,7 @@ fn items_by_slot(rt: HostRuntime) -> Result<(), Fail> {
     expect(&rt, rt.alloc(), ITEMS_BY_SLOT)
 }
 
-// A hundred thousand numbers are live at once, and released: the page of the next number is left.
+// A hundred thousand numbers are live at once, and released: only the page of the next number is left.
 const AT_ONCE: &[Row] = &[
     (0, 100_000, Step::Make),
     (0, 1, Step::Made(100_000, 100_000)),
@@ -251,7 +251,7 @@ fn a_hundred_thousand_at_once(rt: HostRuntime) -> Result<(), Fail> {
     expect(&rt, rt.alloc(), AT_ONCE)
 }
 
-// A hundred thousand come and go by turns, beside one that was made half-way and stays.
+// A hundred thousand numbers are made and released in turn, besides one that was made half-way and stays.
 const BY_TURNS: &[Row] = &[
     (0, 50_000, Step::ComeAndGo),
     (50_000, 50_001, Step::Make),
@@ -271,7 +271,7 @@ fn a_hundred_thousand_by_turns(rt: HostRuntime) -> Result<(), Fail> {
     expect(&rt, rt.alloc(), BY_TURNS)
 }
 
-// Where a growth is refused nothing has happened, and the next try makes the room.
+// If memory is refused, nothing has happened, and the next call reserves the room.
 const REFUSED_ROOM: &[Row] = &[(0, 3_000, Step::Make), (0, 1, Step::Made(3_000, 3_000))];
 
 #[test]
@@ -279,7 +279,7 @@ fn refused_room(rt: HostRuntime) -> Result<(), Fail> {
     expect(&rt, rt.alloc(), REFUSED_ROOM)
 }
 
-// Numbers are given out in room that is there, looked up and released.
+// Makes, looks up and releases numbers within reserved room.
 const WITHOUT_A_GROWTH: &[Row] = &[
     (0, 2_500, Step::Make),
     (0, 1, Step::Room(1)),

@@ -1,4 +1,4 @@
-//! Examples of texts: pairs, lone surrogates and the empty text, and parts replaced. Each is a list of rows.
+//! Texts: pairs, lone surrogates and the empty text, and replaced parts. Each test is a list of rows.
 use super::playing::expect;
 use dom_units::Units;
 use growth_marks::Act;
@@ -6,25 +6,25 @@ use std::alloc::{AllocError, Global};
 use std::mem::swap;
 use std::test::Fail;
 
-// What is done with a text, or what is due of it.
+// A call on a text, or an expected state.
 enum Step {
-    // It is made of characters.
+    // Makes it from characters.
     Text(&'static str),
-    // It is made of units.
+    // Makes it from units.
     Units(&'static [u16]),
-    // It is the empty one.
+    // Makes it empty.
     New,
-    // It is copied to another, over what was there.
+    // Copies it over the other text.
     Copy,
-    // The other takes its place, and it that of the other.
+    // Swaps it and the other text.
     Swap,
-    // It has these units.
+    // Expects these units.
     Is(&'static [u16]),
-    // From this unit on it has these.
+    // Expects these units from an offset on.
     Slice(usize, &'static [u16]),
-    // It is these characters, or it is no text.
+    // Expects these characters, or that it is not well-formed.
     Reads(Option<&'static str>),
-    // It has these units; and then from where on how many are replaced by which.
+    // Expects these units, and then replaces some: from an offset, how many, and the new ones.
     Splice(&'static [u16], usize, usize, &'static [u16]),
 }
 
@@ -53,7 +53,7 @@ fn splice(data: &mut Units, at: usize, count: usize, added: &[u16]) -> Result<bo
     Ok(true)
 }
 
-// Replaces a part. Where the growth is refused the text is as it was, and the next try replaces it.
+// Replaces a part. If memory is refused, the text is unchanged, and it replaces the part again.
 fn splice_at_last(
     data: &mut Units,
     before: &[u16],
@@ -70,7 +70,7 @@ fn splice_at_last(
     }
 }
 
-// A text, and another beside it.
+// A text, and another one.
 #[derive(Drop)]
 struct Both {
     data: Units,
@@ -119,10 +119,10 @@ impl Act for Step {
     }
 }
 
-// The first turn, the one that ends them, and what is done at each of them.
+// The first turn, the turn after the last, and the step for each turn.
 type Row = (u32, u32, Step);
 
-// A text of the characters at the edges of what one, two, three and four bytes of UTF-8 hold, and its units.
+// A text of the first and last characters of one, two, three and four bytes of UTF-8, and its units.
 const EDGES: &str = "\u{0}\u{7F}\u{80}\u{7FF}\u{800}\u{D7FF}\u{E000}\u{FFFF}\u{10000}\u{10FFFF}";
 
 const UNITS_OF_EDGES: &[u16] = &[
@@ -173,7 +173,7 @@ fn texts_and_units(rt: HostRuntime) -> Result<(), Fail> {
     expect(&rt, rt.alloc(), TEXTS_AND_UNITS)
 }
 
-// The units of abcdefg, and of XY.
+// The units of "abcdefg", and of "XY".
 const SEVEN: &[u16] = &[97, 98, 99, 100, 101, 102, 103];
 
 const XY: &[u16] = &[88, 89];
@@ -201,7 +201,7 @@ fn replaced_parts(rt: HostRuntime) -> Result<(), Fail> {
     expect(&rt, rt.alloc(), REPLACED)
 }
 
-// A text of two units is emptied and gets another.
+// Empties a text of two units, and fills it again.
 const EMPTIED: &[Row] = &[
     (0, 1, Step::Units(&[97, 98])),
     (0, 1, Step::Copy),
@@ -219,7 +219,7 @@ fn emptied_beside_a_copy(rt: HostRuntime) -> Result<(), Fail> {
     expect(&rt, rt.alloc(), EMPTIED)
 }
 
-// Where the growth is refused the text is as it was.
+// If memory is refused, the text is unchanged.
 const REFUSED: &[Row] = &[
     (0, 1, Step::Units(&[1, 2, 3])),
     (0, 1, Step::Splice(&[1, 2, 3], 1, 1, &[7, 8, 9])),

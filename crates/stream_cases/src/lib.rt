@@ -1,4 +1,4 @@
-//! The tests of lines that are read, replies that are written, whole sessions, and the streams under them.
+//! The tests of lines, replies, whole sessions, and streams.
 #![tactic(auto)]
 
 #[cfg(test)]

@@ -1,4 +1,4 @@
-//! Lines that are refused, and lines that are read.
+//! Lines that are refused, and lines that are commands.
 
 use dom_serve::{ReadError, read_line};
 use dom_session::{
@@ -17,7 +17,7 @@ fn is_refused(alloc: Global, line: &[u8], refusal: OwnError) -> Result<bool, All
     }
 }
 
-// Puts that many brackets behind a line.
+// Appends brackets to a line.
 fn push_brackets(line: &mut Vec<u8>, bracket: u8, depth: usize) -> Result<(), AllocError> {
     for _pushed in 0..depth {
         line.push(bracket)?;
@@ -25,7 +25,7 @@ fn push_brackets(line: &mut Vec<u8>, bracket: u8, depth: usize) -> Result<(), Al
     Ok(())
 }
 
-// That many arrays, each the only item of the one around it.
+// Returns nested arrays, each the only item of the one around it.
 fn nested(alloc: Global, depth: usize) -> Result<Vec<u8>, AllocError> {
     let mut line = Vec::new(alloc);
     push_brackets(&mut line, b'[', depth)?;
@@ -33,7 +33,7 @@ fn nested(alloc: Global, depth: usize) -> Result<Vec<u8>, AllocError> {
     Ok(line)
 }
 
-// That each of these lines is refused so.
+// Asserts that each of these lines is refused with an error.
 fn are_refused(
     rt: &impl Abort,
     alloc: Global,
@@ -46,7 +46,7 @@ fn are_refused(
     Ok(())
 }
 
-// The same of arrays in one another, so many.
+// Asserts that arrays nested to a depth are refused with an error.
 fn are_refused_as_deep(
     rt: &impl Abort,
     alloc: Global,
@@ -93,7 +93,7 @@ fn refused_for_arguments(rt: HostRuntime) -> Result<(), Fail> {
     Ok(())
 }
 
-// A command, told in numbers: its place in the table, and its arguments. Of a refusal there is nothing to tell.
+// Returns a command as numbers: its place in the table, and its arguments. For a refused line it returns none.
 fn told(alloc: Global, line: &[u8]) -> Result<Vec<u32>, AllocError> {
     match read_line(alloc, line) {
         Ok(command) => numbers_of(alloc, &command),
@@ -108,7 +108,7 @@ fn numbers_of(alloc: Global, command: &Command) -> Result<Vec<u32>, AllocError> 
     Ok(told)
 }
 
-// The bytes of a name.
+// Appends the bytes of a name.
 fn tell_name(told: &mut Vec<u32>, name: &str) -> Result<(), AllocError> {
     for byte in name.as_bytes() {
         told.push(u32::from(*byte))?;
@@ -116,7 +116,7 @@ fn tell_name(told: &mut Vec<u32>, name: &str) -> Result<(), AllocError> {
     Ok(())
 }
 
-// The units of a text.
+// Appends the units of a text.
 fn tell_units(told: &mut Vec<u32>, units: &[u16]) -> Result<(), AllocError> {
     for unit in units {
         told.push(u32::from(*unit))?;
@@ -144,7 +144,7 @@ fn tell(told: &mut Vec<u32>, command: &Command) -> Result<(), AllocError> {
     Ok(())
 }
 
-// Whether each rule of a filter rejects.
+// Appends for each rule of a filter whether it rejects.
 fn tell_rules(told: &mut Vec<u32>, rules: &[Rule]) -> Result<(), AllocError> {
     for rule in rules {
         told.push(u32::from(rule.verdict == Verdict::Reject))?;
@@ -152,7 +152,7 @@ fn tell_rules(told: &mut Vec<u32>, rules: &[Rule]) -> Result<(), AllocError> {
     Ok(())
 }
 
-// The number of a flag that may be missing.
+// Returns the number of a flag that may be missing.
 fn flag_number(flag: Option<bool>) -> u32 {
     match flag {
         None => 2,
@@ -160,7 +160,7 @@ fn flag_number(flag: Option<bool>) -> u32 {
     }
 }
 
-// The last argument alone, for one command of each shape that the first five have not.
+// Appends the last argument alone, for one command of each shape that the first five do not have.
 fn last_argument(told: &mut Vec<u32>, command: &Command) -> Result<(), AllocError> {
     told.push(5)?;
     match command {
@@ -183,7 +183,7 @@ fn last_argument(told: &mut Vec<u32>, command: &Command) -> Result<(), AllocErro
     Ok(())
 }
 
-// Whether children and what is below are watched, and the names in the filter.
+// Appends whether children and descendants are observed, and the names in the filter.
 fn options_told(told: &mut Vec<u32>, options: &RawOptions) -> Result<(), AllocError> {
     told.extend_from_slice(&[
         flag_number(options.child_list),
@@ -197,7 +197,7 @@ fn options_told(told: &mut Vec<u32>, options: &RawOptions) -> Result<(), AllocEr
     Ok(())
 }
 
-// Lines, and the commands that they are read as.
+// Lines, and their commands as numbers.
 const COMMANDS: &[(&str, &[u32])] = &[
     ("[\"newDocument\"]", &[0]),
     (
@@ -213,7 +213,7 @@ const COMMANDS: &[(&str, &[u32])] = &[
     (" [ \"tree\" ,\t7 ]\r", &[4, 7]),
 ];
 
-// That the line is read as this command.
+// Asserts that a line is read as a command.
 fn is_told(rt: &impl Abort, alloc: Global, line: &str, wanted: &[u32]) -> Result<(), AllocError> {
     let command = told(alloc, line.as_bytes())?;
     assert!(rt; command.as_slice() == wanted, "{line}");
@@ -253,7 +253,7 @@ const LAST_ARGUMENTS: &[(&str, &[u32])] = &[
     ),
 ];
 
-// That the line is read as a command with this last argument.
+// Asserts that a line is read as a command with this last argument.
 fn is_last(rt: &impl Abort, alloc: Global, line: &str, argument: &[u32]) -> Result<(), AllocError> {
     let told = told(alloc, line.as_bytes())?;
     assert!(rt;

@@ -1,4 +1,4 @@
-//! Printed replies.
+//! Replies as printed lines.
 
 use dom_attrs::Attrs;
 use dom_serve::write_reply;
@@ -27,7 +27,7 @@ fn row(
     })
 }
 
-// That a reply is this line.
+// Asserts that a reply is printed as a line.
 fn is_line(rt: &impl Abort, alloc: Global, reply: &Reply, wanted: &[u8]) -> Result<(), AllocError> {
     let line = write_reply(alloc, reply)?;
     assert!(rt; line.as_slice() == wanted);
@@ -53,7 +53,7 @@ fn short_replies(rt: HostRuntime) -> Result<(), Fail> {
     Ok(())
 }
 
-// Puts rows of a Document, of an element in it, and of two Texts in that behind others.
+// Appends the rows of a Document, of an element in it, and of two Texts in the element.
 fn push_rows(rows: &mut Vec<TreeRow>, alloc: Global) -> Result<(), AllocError> {
     let document = Label::nameless(Kind::Document);
     rows.push(row(alloc, 0, 0, document, Units::new(alloc))?)?;
@@ -86,7 +86,7 @@ fn printed_tree(rt: HostRuntime) -> Result<(), Fail> {
     Ok(())
 }
 
-// Whether the printed answer is this text in its object.
+// Returns whether an answer is printed as this text in its object.
 fn prints(alloc: Global, answer: Answer, wanted: &str) -> Result<bool, AllocError> {
     prints_reply(alloc, &Reply::Done(answer), wanted)
 }
@@ -97,7 +97,7 @@ fn prints_reply(alloc: Global, reply: &Reply, wanted: &str) -> Result<bool, Allo
     Ok(line.as_slice() == whole.as_bytes())
 }
 
-// Replies that take no memory, by their place in a table, and how their answers are printed.
+// Returns the reply at a place in a table of replies that take no memory, and its printed answer.
 fn plain(place: usize) -> (Reply, &'static str) {
     match place {
         0 => (Reply::Brief(Brief::Nothing), "null"),
@@ -110,7 +110,7 @@ fn plain(place: usize) -> (Reply, &'static str) {
     }
 }
 
-// That the reply at a place of that table is printed so.
+// Asserts how the reply at a place of that table is printed.
 fn prints_plain(rt: &impl Abort, alloc: Global, place: usize) -> Result<(), AllocError> {
     let (reply, wanted) = plain(place);
     assert!(rt; prints_reply(alloc, &reply, wanted)?, "{place}");
@@ -153,7 +153,7 @@ fn printed_lists(rt: HostRuntime) -> Result<(), Fail> {
     prints_names(&rt, rt.alloc())
 }
 
-// That a node of that label is printed so, a root without siblings or the second of three children.
+// Asserts how a node with a label is printed, as a root without siblings, or as the second of three children.
 fn prints_node(
     rt: &impl Abort,
     alloc: Global,
@@ -230,7 +230,7 @@ fn removal(alloc: Global) -> Result<Record, AllocError> {
     })
 }
 
-// A record of an attribute that was set anew.
+// Returns the record of a changed attribute.
 fn change(alloc: Global) -> Result<Record, AllocError> {
     let name = String::from_str(alloc, "x")?;
     let old_value = Units::from_str(alloc, "1")?;
@@ -246,14 +246,14 @@ fn change(alloc: Global) -> Result<Record, AllocError> {
     })
 }
 
-// A removal, and that record.
+// Returns the record of a removal and that of a changed attribute.
 fn two_records(alloc: Global) -> Result<Vec<Record>, Fail> {
     let removal = removal(alloc)?;
     let change = change(alloc)?;
     Ok(vec![in alloc; removal, change]?)
 }
 
-// What one observer is told.
+// Returns the records of one observer.
 fn told(alloc: Global) -> Result<Vec<Told>, Fail> {
     let removal = removal(alloc)?;
     let records = vec![in alloc; removal]?;
@@ -280,7 +280,7 @@ fn set_one(attrs: &mut Attrs, alloc: Global) -> Result<(), AllocError> {
     Ok(())
 }
 
-// The row of an element with one attribute.
+// Returns the row of an element with one attribute.
 fn attributed(alloc: Global) -> Result<TreeRow, AllocError> {
     let mut attrs = Attrs::new(alloc);
     set_one(&mut attrs, alloc)?;

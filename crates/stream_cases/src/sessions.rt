@@ -1,4 +1,4 @@
-//! A session at work, with ample memory.
+//! Sessions with enough memory.
 
 use dom_session::{
     Answer, Asking, Brief, Command, DomError, Editing, Filter, IteratorId, Limits, Making, NodeId,
@@ -13,17 +13,17 @@ const LIMITS: Limits = Limits {
     line: 100,
 };
 
-// A session within those limits. What it stands for is left out, so that what a test asks of it stays cheap to prove.
+// Returns a session with the test's limits. Its view is left out of the contract, so that the checks of a test stay cheap to prove.
 fn begun(alloc: Global) -> Result<Session, AllocError> {
     Session::new(alloc, LIMITS)
 }
 
-// The reply to a command.
+// Returns the reply to a command.
 fn replied(session: &mut Session, command: Command) -> Result<Reply, AllocError> {
     session.apply(command).map_err(|_| AllocError)
 }
 
-// What of a reply is asked: a number, an error of the program's own, or one of the standard's.
+// Returns whether a reply is a number.
 fn is_number(reply: &Reply, number: u32) -> bool {
     match reply {
         Reply::Brief(Brief::Number(n)) => *n == number,
@@ -45,31 +45,31 @@ fn is_dom(reply: &Reply, error: DomError) -> bool {
     }
 }
 
-// Whether a command is answered by that number.
+// Returns whether the reply to a command is a number.
 fn gives(session: &mut Session, command: Command, number: u32) -> Result<bool, AllocError> {
     let reply = replied(session, command)?;
     Ok(is_number(&reply, number))
 }
 
-// Whether a command is refused with that error of the program's own.
+// Returns whether a command is refused with an error of the program.
 fn has_own(session: &mut Session, command: Command, error: OwnError) -> Result<bool, AllocError> {
     let reply = replied(session, command)?;
     Ok(is_own(&reply, error))
 }
 
-// An element of that name.
+// Returns the command that makes an element with a name.
 fn element(alloc: Global, name: &str) -> Result<Command, AllocError> {
     let name = String::from_str(alloc, name)?;
     Ok(Command::Making(Making::CreateElement(NodeId::new(0), name)))
 }
 
-// A Text of that data.
+// Returns the command that makes a Text with data.
 fn text(alloc: Global, data: &str) -> Result<Command, AllocError> {
     let data = Units::from_str(alloc, data)?;
     Ok(Command::Making(Making::CreateText(NodeId::new(0), data)))
 }
 
-// That a reply has two rows, the second a Text of two units below the first.
+// Returns whether a reply has two rows, the second a Text of two units below the first.
 fn has_a_text_below(reply: &Reply) -> bool {
     match reply {
         Reply::Done(Answer::Rows(rows)) => {
@@ -79,12 +79,12 @@ fn has_a_text_below(reply: &Reply) -> bool {
     }
 }
 
-// What a test does in a session.
+// The commands of a test in a session.
 trait Scene {
     fn play(rt: &impl Abort, alloc: Global, session: &mut Session) -> Result<(), AllocError>;
 }
 
-// Plays a scene in a session of its own. It alone lets go of the session, which is dear to prove.
+// Plays a scene in a session of its own. Only this function drops the session, because that takes long to prove.
 fn played<S: Scene>(rt: &impl Abort, alloc: Global) -> Result<(), AllocError> {
     let mut session = begun(alloc)?;
     S::play(rt, alloc, &mut session)
@@ -110,7 +110,7 @@ fn nodes_are_made_and_printed(rt: HostRuntime) -> Result<(), Fail> {
     Ok(())
 }
 
-// Whether a command is refused with that error of the standard's.
+// Returns whether a command is refused with an error of the standard.
 fn has_dom(session: &mut Session, command: Command, error: DomError) -> Result<bool, AllocError> {
     let reply = replied(session, command)?;
     Ok(is_dom(&reply, error))
@@ -139,7 +139,7 @@ fn refusals_spend_no_number(rt: HostRuntime) -> Result<(), Fail> {
     Ok(())
 }
 
-// Whether a command is done, and has no other answer.
+// Returns whether a command succeeds without a value.
 fn does(session: &mut Session, command: Command) -> Result<bool, AllocError> {
     match replied(session, command)? {
         Reply::Brief(Brief::Nothing) => Ok(true),
@@ -147,7 +147,7 @@ fn does(session: &mut Session, command: Command) -> Result<bool, AllocError> {
     }
 }
 
-// The filter that shows all nodes.
+// Returns the filter that shows all nodes.
 fn all(alloc: Global) -> Filter {
     Filter {
         show: 4294967295,

@@ -1,4 +1,4 @@
-//! The reader and the writer made of std's.
+//! The reader and the writer over those of std.
 
 use dom_serve::{Failed, FromRead, LastError, Sink, Source, ToWrite};
 use std::io::{self, Read, Write};
@@ -18,7 +18,7 @@ impl Write for Full {
     }
 }
 
-/// A writer that counts its flushes, of which the first fails.
+/// A writer that counts its flushes. The first one fails.
 #[derive(Drop)]
 struct Counting {
     flushes: u8,
@@ -38,7 +38,7 @@ impl Write for Counting {
     }
 }
 
-/// A reader that fails once, and then reads on.
+/// A reader that fails once, and then reads.
 #[derive(Drop)]
 struct FailsOnce {
     calls: u8,
@@ -94,7 +94,7 @@ fn a_read_after_one_that_failed_is_made(rt: HostRuntime) {
     assert_eq!(rt; reader.read(&mut buffer), Ok(0));
 }
 
-// Whether the kept error is of this kind.
+// Returns whether the stored error is of a kind.
 fn is_kept(error: Option<io::Error>, kind: io::ErrorKind) -> bool {
     match error {
         Some(error) => error.kind() == kind,
@@ -117,7 +117,7 @@ fn the_last_error_is_kept(rt: HostRuntime) {
     assert!(rt; is_kept(reader.last_error(), io::ErrorKind::Other));
 }
 
-// No clause says that a flush reaches the std writer.
+// No clause states that a flush reaches the writer of std.
 #[test]
 fn each_flush_reaches_the_writer(rt: HostRuntime) {
     let mut writer = ToWrite::new(Counting { flushes: 0 });

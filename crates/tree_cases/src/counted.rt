@@ -1,4 +1,4 @@
-//! Values that count how often they are dropped: what a store lets go of is dropped, once.
+//! Values that count their drops: each value that is taken from a store or freed with it is dropped once.
 
 use dom_kinds::{Kind, Label};
 use dom_links::{Links, Slot};
@@ -10,7 +10,7 @@ use std::rc::Rc;
 use std::test::Fail;
 use tree_steps::{made, put};
 
-// A value that counts how often it is dropped.
+// A value that counts its drops.
 struct Counted {
     drops: Rc<Cell<u32>>,
 }
@@ -23,7 +23,7 @@ impl Drop for Counted {
     }
 }
 
-// Adds such a value.
+// Adds a counted value.
 fn add(
     rt: &impl Abort,
     links: &mut Links<Counted>,
@@ -36,7 +36,7 @@ fn add(
     Ok(added.unwrap())
 }
 
-// Five values, of which the first is taken out.
+// Adds five values, and takes and drops the first.
 fn keep_four(
     rt: &impl Abort,
     links: &mut Links<Counted>,
@@ -65,7 +65,7 @@ fn each_value_is_dropped_once(rt: HostRuntime) -> Result<(), Fail> {
     Ok(())
 }
 
-// Makes an element with such a value, a document of its own.
+// Makes an element with a counted value that is its own node document.
 fn element(
     rt: &impl Abort,
     tree: &mut Tree<Counted>,
@@ -77,7 +77,7 @@ fn element(
     made(tree, Label::nameless(Kind::Element), body, None)
 }
 
-// A root with two children is let go of, beside one that stays.
+// Frees a root with two children, but not another root.
 fn let_go_of_three(
     rt: &impl Abort,
     tree: &mut Tree<Counted>,

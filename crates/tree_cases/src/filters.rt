@@ -1,4 +1,4 @@
-//! What tests of iterators and of walkers share: filters, and the roots of those that are made in great number.
+//! Shared code of the tests of iterators and of walkers: filters, and the roots of many of them.
 use dom_traverse::{Filter, Rule, Verdict};
 use std::alloc::{AllocError, Global};
 
@@ -16,7 +16,7 @@ fn push_rules(
     Ok(())
 }
 
-// A filter that shows all kinds of nodes, with these rules.
+// Returns a filter that shows all kinds of nodes, with rules.
 pub(crate) fn filter(alloc: Global, rules: &[(&str, Verdict)]) -> Result<Filter, AllocError> {
     let mut all = Vec::new(alloc);
     push_rules(alloc, &mut all, rules)?;
@@ -26,7 +26,7 @@ pub(crate) fn filter(alloc: Global, rules: &[(&str, Verdict)]) -> Result<Filter,
     })
 }
 
-// The root of an iterator or a walker of that number, where many are made.
+// Returns the root of an iterator or a walker by its number, for tests that make many.
 pub(crate) fn root_of(number: u32) -> u32 {
     2 + number % 7
 }

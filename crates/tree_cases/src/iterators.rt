@@ -1,4 +1,4 @@
-//! Node iterators over small and wide trees, step by step; and iterators that are made and released, so that one comes into the slot of another.
+//! Node iterators over small and wide trees, step by step, and iterators that are made and released, so that one moves into the slot of another.
 
 ghost use Rattle.std.specs.Prelude.{◌≡◌, true, IsSome};
 ghost use Rattle.std.specs.Option.{ForSome};
@@ -13,36 +13,36 @@ use growth_marks::Act;
 use std::alloc::{AllocError, Global};
 use std::test::Fail;
 
-// What is done at a turn, or what is due then, with the iterator or the node of that number.
+// A call at a turn with the iterator or the node of that number, or an expected state.
 enum Step {
-    // What is done with the tree.
+    // A step with the tree.
     Tree(TreeStep),
-    // An iterator of this element is made, and shows all.
+    // Makes an iterator of this element that shows all nodes.
     New(u32),
-    // It comes to this element, or to none.
+    // Moves it, and expects this element, or none.
     Next(Option<u32>),
     Previous(Option<u32>),
-    // The first iterator comes to the element of that number.
+    // Moves the first iterator to the next element, which is that of the turn.
     Finds,
-    // The element leaves its parent, after the pre-removing steps.
+    // Runs the pre-removing steps for the element, and removes it from its parent.
     Remove,
-    // The iterator is of this element, and stands at that one, before it or behind it.
+    // Expects its root and its reference node, and whether the pointer is before the reference node.
     Stands(u32, u32, bool),
-    // It stands before its root, that of its number.
+    // Expects it before its root, which follows from its number.
     StandsFirst,
-    // It is released.
+    // Releases it.
     Release,
-    // Whether it is there.
+    // Expects whether it exists.
     Held(bool),
-    // So many were made, and so many are there.
+    // Expects how many were made, and how many there are.
     Made(u64, usize),
-    // Whether an iterator names a node inside the element.
+    // Expects whether an iterator refers to a node inside the element.
     Refers(bool),
-    // An iterator of the root of its number is made, and where ten more are there the first of them is released.
+    // Makes an iterator of the root for its number. If ten older ones exist, releases the first of them.
     TakeTurn,
 }
 
-// The first turn, the one that ends them, and what is done at each of them.
+// The first turn, the turn after the last, and the step for each turn.
 type Row = (u32, u32, Step);
 
 fn new(
@@ -58,7 +58,7 @@ fn new(
     Ok(id.number() == due)
 }
 
-// Whether an iterator is there, and stands in the tree.
+// Returns whether an iterator exists and is inside the tree.
 fn is_inside(iterators: &NodeIterators, tree: &Tree<u32>, id: IteratorId) -> bool
     ensures held { result ≡ true → IsSome (iterator_in iterators.now id) }
     ensures inside { result ≡ true → ForSome (iterator_in iterators.now id)
@@ -157,7 +157,7 @@ fn refers(iterators: &NodeIterators, tree: &Tree<u32>, node: NodeId, due: bool) 
     tree.holds(node) && iterators.refers(tree, node) == due
 }
 
-// Whether what is asked is as it is due.
+// Returns whether the expected state is there.
 fn is_due(iterators: &NodeIterators, tree: &Tree<u32>, turn: u32, step: &Step) -> bool {
     match step {
         Step::Stands(root, reference, before) => {
@@ -206,7 +206,7 @@ impl Act for Step {
     }
 }
 
-// r [ a [ b ] c ], and two more elements, 5 and 6, which are roots
+// The tree r [ a [ b ] c ], and two more elements, 5 and 6, as roots.
 const STEPS_OFF: &[Row] = &[
     (0, 1, Step::Tree(TreeStep::Document)),
     (1, 2, Step::Tree(TreeStep::Element(Some(0), "r"))),
@@ -240,9 +240,9 @@ fn an_iterator_steps_off_what_is_removed(rt: HostRuntime) -> Result<(), Fail> {
     expect(&rt, rt.alloc(), STEPS_OFF)
 }
 
-// Three iterators over the same tree, the last of them of the element 2. The first is released. The second goes to the element 3, which leaves
-// with the element 2; the third is of that, and stays. Once the third is released none names the element 2, and the next has a number of its
-// own.
+// Three iterators over the same tree, the last one of the element 2. The first is released. The second moves to the element 3, which is removed with
+// the element 2. The third has that as its root, and does not move. Once it is released, no iterator refers to the element 2, and the next iterator
+// gets a number of its own.
 const RELEASED: &[Row] = &[
     (0, 1, Step::Tree(TreeStep::Document)),
     (1, 2, Step::Tree(TreeStep::Element(Some(0), "r"))),
@@ -278,7 +278,7 @@ fn a_released_iterator(rt: HostRuntime) -> Result<(), Fail> {
     expect(&rt, rt.alloc(), RELEASED)
 }
 
-// Over more numbers than a page has. The last ten are there, each of its root.
+// More numbers than a page has. The last ten exist, each with its root.
 const BY_TURNS: &[Row] = &[
     (0, 3_000, Step::TakeTurn),
     (0, 1, Step::Held(false)),
@@ -290,7 +290,7 @@ fn iterators_by_turns(rt: HostRuntime) -> Result<(), Fail> {
     expect(&rt, rt.alloc(), BY_TURNS)
 }
 
-// No iterator, where there is none.
+// A tree without iterators.
 const NONE: &[Row] = &[
     (0, 1, Step::Tree(TreeStep::Document)),
     (1, 2, Step::Tree(TreeStep::Element(Some(0), "p"))),
@@ -306,7 +306,7 @@ fn no_iterator_refers(rt: HostRuntime) -> Result<(), Fail> {
     expect(&rt, rt.alloc(), NONE)
 }
 
-// An iterator over so many elements, all under the first of them: each is found once.
+// An iterator over all elements, each but the first a child of the first: it finds each once.
 const OVER_1000: &[Row] = &[
     (0, 1, Step::Tree(TreeStep::Document)),
     (1, 2, Step::Tree(TreeStep::Element(Some(0), "r"))),

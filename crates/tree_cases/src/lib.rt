@@ -1,4 +1,4 @@
-//! The tests of trees, of points in them and of what walks over them, by their public calls.
+//! The tests of trees, boundary points and traversal, by their public calls.
 #![tactic(auto)]
 
 #[cfg(test)]

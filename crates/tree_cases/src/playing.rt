@@ -1,10 +1,10 @@
-//! How the rows of a test are played.
+//! Playing the rows of a test.
 use growth_marks::{Act, play};
 use std::alloc::Global;
 use std::process::Abort;
 use std::test::Fail;
 
-// That all is as it is due in each row, at each turn; else the row and the turn where it is not.
+// Asserts that all outcomes are the expected ones; on a failure it prints the row and the turn.
 pub(crate) fn expect<S: Act>(
     rt: &impl Abort,
     alloc: Global,

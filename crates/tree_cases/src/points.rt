@@ -1,4 +1,4 @@
-//! Points of small trees, by the rules; and points of wide trees.
+//! Boundary points of small trees, by the rules, and of wide trees.
 use super::playing::expect;
 use super::tree::{Row, Step};
 use std::cmp::Ordering;
@@ -12,8 +12,8 @@ const OF_ONE_NODE: &[Row] = &[
     (0, 1, Step::Order((0, 1), (0, 1), Ordering::Equal)),
 ];
 
-// Points of 0 [ 1 [ 3 ] 2 [ 4 [ 5 ] ] ], where a point above stands ahead up to the child on the way, and behind past it, else by tree order;
-// and the deepest nodes above two.
+// Points of 0 [ 1 [ 3 ] 2 [ 4 [ 5 ] ] ], and common ancestors of two nodes. A point of an ancestor is before a point below it if its offset is at
+// most the index of the child on the path, and after it otherwise. Other points are in tree order.
 const OF_SIX_NODES: &[Row] = &[
     (0, 1, Step::Element(None, "")),
     (1, 3, Step::Child(None, 0)),
@@ -33,7 +33,7 @@ const OF_SIX_NODES: &[Row] = &[
     (0, 1, Step::Common(4, 4, 4)),
 ];
 
-// Points of siblings far apart: 0 with 51 children, of which the last has one.
+// Points of siblings far apart: 0 has 51 children, and the last of them has one.
 const FAR_APART: &[Row] = &[
     (0, 1, Step::Element(None, "")),
     (1, 52, Step::Child(None, 0)),
@@ -51,8 +51,8 @@ fn points_of_small_trees(rt: HostRuntime) -> Result<(), Fail> {
     Ok(())
 }
 
-// A root with two groups of 498 leaves each: the leaves of the first are numbered from 3 on, then those of the second. Points of leaves near
-// one another, of neighbouring groups and of the root; and of leaves of one group far from one another, and of their group.
+// A root with two groups of 498 leaves each: the leaves of the first have the numbers from 3 on, and those of the second follow. Points of leaves
+// near each other, of both groups and of the root, of leaves of one group far from each other, and of their group.
 const AMONG_A_THOUSAND: &[Row] = &[
     (0, 1, Step::Element(None, "")),
     (1, 3, Step::Child(None, 0)),
@@ -71,7 +71,7 @@ fn points_among_a_thousand_nodes(rt: HostRuntime) -> Result<(), Fail> {
     expect(&rt, rt.alloc(), AMONG_A_THOUSAND)
 }
 
-// The same with groups of 49,998.
+// A root with two groups of 49,998 leaves each.
 const AMONG_A_HUNDRED_THOUSAND: &[Row] = &[
     (0, 1, Step::Element(None, "")),
     (1, 3, Step::Child(None, 0)),

@@ -1,4 +1,4 @@
-//! Trees that are grown, asked and let go of, step by step: indices that are kept or found, and what names a node.
+//! Trees that are built, queried and freed, step by step: indices that are cached or found, and references to nodes.
 
 ghost use Rattle.dom_model.specs.Forests.Forest.{HasNode};
 
@@ -12,63 +12,63 @@ use std::cmp::Ordering;
 use std::test::Fail;
 use tree_steps::{made, put};
 
-// What is done at a turn with the node of that number, or what is due then. An element is a document of its own, or is in another's.
+// A call at a turn with the node of that number, or an expected state. An element is its own node document, or has another one.
 pub(crate) enum Step {
-    // A document comes into the tree.
+    // Makes a document.
     Document,
-    // An element of this name does.
+    // Makes an element with a name.
     Element(Option<u32>, &'static str),
-    // An element does, and is put under this one: last, or first.
+    // Makes an element, and inserts it under a parent: as the last or the first child.
     Child(Option<u32>, u32),
     FirstChild(Option<u32>, u32),
-    // The node is put under this one, before that one or last.
+    // Inserts the node under a parent, before another or as the last child.
     Put(u32, Option<u32>),
-    // It is put last under this one, where that is done at once.
+    // Appends it to a parent by the fast path, and expects whether that succeeds.
     PutLeaf(u32, bool),
-    // It leaves its parent.
+    // Removes it from its parent.
     Cut,
-    // It is let go of, with all under it.
+    // Frees it, with all its descendants.
     Free,
-    // Its children are numbered.
+    // Caches the index of each of its children.
     NumberChildren,
-    // Room is made for blocks of its children.
+    // Reserves room for blocks of its children.
     MakeRoom,
-    // This is its index, and is known from then on.
+    // Finds its index, and caches it.
     Found(usize),
-    // Its index is so much less than its number, and found near it.
+    // Expects its index, its number less this one, without a walk.
     Behind(usize),
-    // This is its child at an index.
+    // Expects its child at an index.
     At(usize, u32),
-    // Whether it comes before this child of its parent.
+    // Expects whether it comes before this sibling.
     ComesBefore(u32, bool),
-    // Whether the tree holds it.
+    // Expects whether it exists.
     Held(bool),
-    // So many nodes were made, and so many are live.
+    // Expects how many nodes were made, and how many are live.
     Made(u64, u64),
-    // This is the index that it knows.
+    // Expects its cached index.
     Kept(Option<usize>),
-    // This is its index, and if it knows one, that.
+    // Expects its index, and the same as the cached one, if any.
     MovedOn(usize),
     Index(usize),
-    // This is the index that is found within so many steps.
+    // Expects the index that a walk of this many steps finds.
     Within(usize, Option<usize>),
-    // So many of its children are of a kind, as far as that is counted.
+    // Expects how many of its children are of a kind, if they are counted.
     OfKind(Kind, Option<u32>),
-    // Whether a node outside names it or a node under it.
+    // Expects whether a node outside refers to it or to a descendant.
     Refers(bool),
-    // These are its children: all, or from one of them on.
+    // Expects its children: all, or from one of them on.
     Children(&'static [u32]),
     ChildrenFrom(Option<u32>, &'static [u32]),
-    // So stand two points, each a node and an offset.
+    // Expects the order of two points, each a node and an offset.
     Order((u32, usize), (u32, usize), Ordering),
-    // The deepest node above the first two is the third.
+    // Expects the third node as the common ancestor of the first two.
     Common(u32, u32, u32),
-    // What comes between these takes no memory.
+    // Marks steps that take no memory.
     Begins,
     Ends,
 }
 
-// The first turn, the one that ends them, and what is done at each of them.
+// The first turn, the turn after the last, and the step for each turn.
 pub(crate) type Row = (u32, u32, Step);
 
 fn node_if(number: Option<u32>) -> Option<NodeId> {
@@ -78,7 +78,7 @@ fn node_if(number: Option<u32>) -> Option<NodeId> {
     }
 }
 
-// Makes a node of that number.
+// Makes a node, and returns whether its number is the expected one.
 fn make(
     alloc: Global,
     tree: &mut Tree<u32>,
@@ -92,7 +92,7 @@ fn make(
     Ok(id.number() == due)
 }
 
-// Puts a node ahead of the others under this one.
+// Inserts a node as the first child.
 fn put_first(tree: &mut Tree<u32>, parent: NodeId, child: NodeId) -> bool {
     if !tree.holds(parent) {
         return false;
@@ -137,7 +137,7 @@ fn found(tree: &mut Tree<u32>, id: NodeId, due: usize) -> bool {
     tree.holds(id) && tree.found_index(id) == due
 }
 
-// Whether one of two children of one parent comes first, or does not, as it is due.
+// Returns whether the order of two siblings is the expected one.
 fn comes_before(tree: &mut Tree<u32>, a: NodeId, b: NodeId, due: bool) -> bool {
     if !tree.holds(a) || !tree.holds(b) || tree.parent(a).is_none() {
         return false;
@@ -179,7 +179,7 @@ fn at(point: (u32, usize)) -> Point {
     }
 }
 
-// Whether the points are of one tree, and stand so; and the other way round.
+// Returns whether two points of one tree have the expected order, in both directions.
 fn stand(tree: &Tree<u32>, a: Point, b: Point, due: Ordering) -> bool {
     if !tree.holds(a.node) || !tree.holds(b.node) || tree.root(a.node) != tree.root(b.node) {
         return false;
@@ -194,7 +194,7 @@ fn meet(tree: &Tree<u32>, a: NodeId, b: NodeId, due: NodeId) -> bool {
     common(tree, a, b) == due
 }
 
-// Whether a node has come to a place: an index that is known is this one, and so is the one found.
+// Returns whether a node's index is the expected one, and so is the cached one, if any.
 fn has_moved_on(tree: &Tree<u32>, id: NodeId, due: usize) -> bool
     requires { HasNode tree.now.forest id }
 {
@@ -202,7 +202,7 @@ fn has_moved_on(tree: &Tree<u32>, id: NodeId, due: usize) -> bool
     (known.is_none() || known == Some(due)) && tree.index(id) == due
 }
 
-// Whether the index of a node is so much less than its number, and is found with no step to the ends.
+// Returns whether a node's index is its number less `less`, without a walk.
 fn is_behind(tree: &Tree<u32>, id: NodeId, less: usize) -> bool
     requires { HasNode tree.now.forest id }
 {
@@ -210,7 +210,7 @@ fn is_behind(tree: &Tree<u32>, id: NodeId, less: usize) -> bool
     due.is_some() && tree.index_within(id, 0) == due
 }
 
-// Whether what is asked of a node is as it is due.
+// Returns whether the expected state of a node is there.
 fn is_due_of(tree: &Tree<u32>, id: NodeId, step: &Step) -> bool
     requires { HasNode tree.now.forest id }
 {
@@ -229,7 +229,7 @@ fn is_due_of(tree: &Tree<u32>, id: NodeId, step: &Step) -> bool
     }
 }
 
-// Whether what is asked is as it is due.
+// Returns whether the expected state is there.
 fn is_due(tree: &Tree<u32>, turn: u32, step: &Step) -> bool {
     let id = NodeId::new(turn);
     match step {
@@ -243,7 +243,7 @@ fn is_due(tree: &Tree<u32>, turn: u32, step: &Step) -> bool {
     }
 }
 
-// Makes an element, and puts it under this one: last, or first.
+// Makes an element, and inserts it under a parent: as the last or the first child.
 fn make_child(
     alloc: Global,
     tree: &mut Tree<u32>,
@@ -263,7 +263,7 @@ fn make_child(
     Ok(put_first(tree, parent, child))
 }
 
-// Does a step with a tree at a turn; whether all is as it is due.
+// Runs a step with a tree at a turn, and returns whether the outcome is the expected one.
 pub(crate) fn grow(
     alloc: Global,
     tree: &mut Tree<u32>,
@@ -304,7 +304,7 @@ impl Act for Step {
     }
 }
 
-// A root with no children comes in last where its parent takes it with nothing else to ask, and takes no memory. Else nothing changes.
+// The fast path appends a root without children if its parent accepts it without further checks, and takes no memory. Otherwise nothing changes.
 const LEAVES: &[Row] = &[
     (0, 1, Step::Document),
     (1, 5, Step::Element(Some(0), "")),
@@ -313,12 +313,12 @@ const LEAVES: &[Row] = &[
     (0, 1, Step::Begins),
     (2, 4, Step::PutLeaf(1, true)),
     (1, 2, Step::Children(&[2, 3])),
-    // It has a parent, or children, or is the parent, or is a Document.
+    // The node has a parent, or has children, or is the parent, or is a Document.
     (2, 3, Step::PutLeaf(4, false)),
     (1, 2, Step::PutLeaf(4, false)),
     (4, 5, Step::PutLeaf(4, false)),
     (0, 1, Step::PutLeaf(4, false)),
-    // A Document is asked more, and a node of another document is adopted.
+    // A Document needs more checks, and a node of another document is adopted.
     (4, 5, Step::PutLeaf(0, false)),
     (5, 6, Step::PutLeaf(1, false)),
     // There is no such node.
@@ -326,12 +326,12 @@ const LEAVES: &[Row] = &[
     (500, 501, Step::PutLeaf(1, false)),
     (1, 2, Step::Children(&[2, 3])),
     (4, 5, Step::Children(&[])),
-    // A root again, it comes in elsewhere.
+    // It is a root again, and is inserted elsewhere.
     (2, 3, Step::Cut),
     (2, 3, Step::PutLeaf(4, true)),
     (1, 2, Step::Children(&[3])),
     (4, 5, Step::Children(&[2])),
-    // Room for blocks may be wanted from 128 children on.
+    // From 128 children on, room for blocks may be needed.
     (6, 133, Step::PutLeaf(1, true)),
     (133, 134, Step::PutLeaf(1, false)),
     (0, 1, Step::Ends),
@@ -343,7 +343,7 @@ fn leaves_come_in_at_once(rt: HostRuntime) -> Result<(), Fail> {
     expect(&rt, rt.alloc(), LEAVES)
 }
 
-// The element 6 comes ahead of four others, and moves them on: none of them is numbered until all are.
+// The element 6 is inserted before four others, whose indices grow. No index is cached until all are.
 const FIVE_CHILDREN: &[Row] = &[
     (0, 1, Step::Document),
     (1, 2, Step::Element(Some(0), "")),
@@ -361,7 +361,7 @@ const FIVE_CHILDREN: &[Row] = &[
     (1, 2, Step::ChildrenFrom(Some(5), &[5])),
     (3, 4, Step::Kept(None)),
     (5, 6, Step::Kept(None)),
-    // Found from both sides; and 1 is a root.
+    // Found from both sides. The node 1 is a root.
     (3, 4, Step::Within(0, None)),
     (3, 4, Step::Within(1, None)),
     (3, 4, Step::Within(2, Some(2))),
@@ -385,7 +385,7 @@ fn five_children_and_their_indices(rt: HostRuntime) -> Result<(), Fail> {
     expect(&rt, rt.alloc(), FIVE_CHILDREN)
 }
 
-// The children are 301, 300 and so on, down to 2. Two side by side are compared, and none is numbered; then two far apart.
+// The children are 301, 300 and so on, down to 2. Comparing two neighbours caches no index; comparing two far apart does.
 const FAR_APART: &[Row] = &[
     (0, 1, Step::Document),
     (1, 2, Step::Element(Some(0), "")),
@@ -404,7 +404,8 @@ fn children_far_apart_are_numbered_once_they_are_compared(rt: HostRuntime) -> Re
     expect(&rt, rt.alloc(), FAR_APART)
 }
 
-// The children are 2, 3 and so on, up to 301. The first question has no room for blocks, and numbers those ahead of a child; the next one, once there is room, puts all into blocks. Their indices are then known while children come and go anywhere.
+// The children are 2, 3 and so on, up to 301. The first query has no room for blocks, and caches the indices of the preceding siblings. Once there is
+// room, the next query puts all children into blocks. Their indices are then known wherever children are inserted and removed.
 const IN_BLOCKS: &[Row] = &[
     (0, 1, Step::Document),
     (1, 2, Step::Element(Some(0), "")),
@@ -421,7 +422,7 @@ const IN_BLOCKS: &[Row] = &[
     (2, 100, Step::Behind(1)),
     (303, 304, Step::Within(0, Some(99))),
     (100, 302, Step::Behind(0)),
-    // Between two blocks, and last.
+    // Inserts between two blocks, and at the end.
     (304, 305, Step::Put(1, Some(128))),
     (305, 306, Step::Put(1, Some(129))),
     (306, 307, Step::Put(1, None)),
@@ -430,7 +431,7 @@ const IN_BLOCKS: &[Row] = &[
     (128, 129, Step::Within(0, Some(129))),
     (305, 306, Step::Within(0, Some(130))),
     (306, 307, Step::Within(0, Some(304))),
-    // One goes and comes again in another block.
+    // Moves a child to another block.
     (200, 201, Step::Cut),
     (200, 201, Step::Put(1, Some(10))),
     (200, 201, Step::Within(0, Some(9))),
@@ -445,7 +446,7 @@ const IN_BLOCKS: &[Row] = &[
     (1, 2, Step::At(130, 128)),
     (1, 2, Step::At(203, 201)),
     (1, 2, Step::At(304, 306)),
-    // The first of a block goes into another.
+    // Moves the first child of a block to another block.
     (128, 129, Step::Cut),
     (1, 2, Step::At(130, 305)),
     (128, 129, Step::Put(1, Some(20))),
@@ -462,7 +463,7 @@ fn indices_in_blocks_stay_known_without_a_growth(rt: HostRuntime) -> Result<(), 
     expect(&rt, rt.alloc(), IN_BLOCKS)
 }
 
-// A parent and its children go with their blocks, and what comes into their slots has none.
+// A parent and its children are freed with their blocks, and new nodes in their slots have none.
 const BLOCKS_LET_GO: &[Row] = &[
     (0, 1, Step::Document),
     (1, 2, Step::Element(Some(0), "")),
@@ -487,8 +488,8 @@ fn blocks_go_with_their_parent(rt: HostRuntime) -> Result<(), Fail> {
     expect(&rt, rt.alloc(), BLOCKS_LET_GO)
 }
 
-// Appended children know their index. A cut child leaves the indices before it, and comes again as the last. A tree is let go of once nothing
-// names it, and its numbers do not come again.
+// Appended children have cached indices. A removed child leaves the indices before it, and is appended again. A tree is freed if nothing refers to
+// it, and its numbers are not reused.
 const CUT_AND_LET_GO: &[Row] = &[
     (0, 1, Step::Document),
     (1, 2, Step::Element(Some(0), "")),
@@ -522,7 +523,7 @@ fn four_children_cut_and_let_go(rt: HostRuntime) -> Result<(), Fail> {
     expect(&rt, rt.alloc(), CUT_AND_LET_GO)
 }
 
-// Of three hundred children two are put in order, all are numbered, and one comes to the front; it is cut, and let go of.
+// Compares two of three hundred children, caches all indices, moves one to the front, removes it and frees it.
 const WITHOUT_A_GROWTH: &[Row] = &[
     (0, 1, Step::Document),
     (1, 2, Step::Element(Some(0), "")),
@@ -544,7 +545,7 @@ fn children_without_a_growth(rt: HostRuntime) -> Result<(), Fail> {
     expect(&rt, rt.alloc(), WITHOUT_A_GROWTH)
 }
 
-// A Document knows how many elements and doctypes it has; an element does not, nor does what comes into the slot of a Document.
+// The elements and doctypes of a Document are counted. Those of an element are not, and neither are those of an element in a Document's old slot.
 const COUNTED_BY_KIND: &[Row] = &[
     (0, 1, Step::Document),
     (1, 2, Step::Element(Some(0), "")),

@@ -1,4 +1,4 @@
-//! Tree walkers over small trees, step by step; and walkers that are made and released, so that one comes into the slot of another.
+//! Tree walkers over small trees, step by step, and walkers that are made and released, so that one moves into the slot of another.
 use super::filters::{filter, root_of};
 use super::playing::expect;
 use super::tree::{Step as TreeStep, grow};
@@ -8,29 +8,29 @@ use growth_marks::Act;
 use std::alloc::{AllocError, Global};
 use std::test::Fail;
 
-// What is done at a turn, or what is due then, with the walker or the node of that number.
+// A call at a turn with the walker or the node of that number, or an expected state.
 enum Step {
-    // What is done with the tree.
+    // A step with the tree.
     Tree(TreeStep),
-    // A walker of this element is made, with these rules.
+    // Makes a walker of this element, with rules.
     New(u32, &'static [(&'static str, Verdict)]),
-    // It goes by this move to that element, or to none.
+    // Moves it, and expects this element, or none.
     Go(Move, Option<u32>),
-    // It is set to this element.
+    // Sets its current node.
     Set(u32),
-    // It is of this element, and stands at that one.
+    // Expects its root and its current node.
     Stands(u32, u32),
-    // It is released.
+    // Releases it.
     Release,
-    // So many were made, and so many are there.
+    // Expects how many were made, and how many there are.
     Made(u64, usize),
-    // Whether a walker names a node inside the element.
+    // Expects whether a walker refers to a node inside the element.
     Refers(bool),
-    // A walker of the root of its number is made and released.
+    // Makes a walker of the root for its number, and releases it.
     ComeAndGo,
 }
 
-// The first turn, the one that ends them, and what is done at each of them.
+// The first turn, the turn after the last, and the step for each turn.
 type Row = (u32, u32, Step);
 
 fn new(
@@ -131,8 +131,8 @@ impl Act for Step {
     }
 }
 
-// r [ a [ b ] c ], and two more elements, 5 and 6, which are roots. Two walkers of the element 1, of which the first skips what is named a, and
-// the second rejects it: they walk in the small tree, then from elsewhere in a larger one.
+// The tree r [ a [ b ] c ], and two more elements, 5 and 6, as roots. Of two walkers of the element 1, the first skips elements with the name a, and
+// the second rejects them. They walk in the small tree, and then from elsewhere in a larger one.
 const SKIP_AND_REJECT: &[Row] = &[
     (0, 1, Step::Tree(TreeStep::Document)),
     (1, 2, Step::Tree(TreeStep::Element(Some(0), "r"))),
@@ -168,7 +168,7 @@ fn walkers_that_skip_and_reject(rt: HostRuntime) -> Result<(), Fail> {
     expect(&rt, rt.alloc(), SKIP_AND_REJECT)
 }
 
-// p [ a b c ], and a walker of the element 3 that skips what is named b, and stands at the element 4.
+// The tree p [ a b c ], and a walker of the element 3 that skips elements with the name b. It starts at the element 4.
 const BACK_PAST_ITS_ROOT: &[Row] = &[
     (0, 1, Step::Tree(TreeStep::Document)),
     (1, 2, Step::Tree(TreeStep::Element(Some(0), "p"))),
@@ -189,7 +189,8 @@ fn a_walker_goes_back_past_its_root(rt: HostRuntime) -> Result<(), Fail> {
     expect(&rt, rt.alloc(), BACK_PAST_ITS_ROOT)
 }
 
-// A walker that stays, and as many as there are roots that come and go. As many more take no memory then, within the numbers of a page.
+// A walker that stays, and as many others as there are roots, which are made and released. More of them take no memory then, within the numbers of a
+// page.
 const WITHOUT_A_GROWTH: &[Row] = &[
     (0, 1, Step::New(1, &[])),
     (1, 10, Step::ComeAndGo),
@@ -205,8 +206,7 @@ fn made_and_released_without_a_growth(rt: HostRuntime) -> Result<(), Fail> {
     expect(&rt, rt.alloc(), WITHOUT_A_GROWTH)
 }
 
-// Two walkers, the first of the element 2. The second goes to the element 3, and the first is released. The second walks on, and is released as
-// well.
+// Two walkers, the first of the element 2. The second moves to the element 3, and the first is released. The second walks on, and is released too.
 const RELEASED: &[Row] = &[
     (0, 1, Step::Tree(TreeStep::Document)),
     (1, 2, Step::Tree(TreeStep::Element(Some(0), "r"))),

@@ -1,4 +1,4 @@
-//! What the tests of trees, points, ranges and traversal share: nodes that are made, and put under others.
+//! Shared code of the tests of trees, points, ranges and traversal: it makes nodes and inserts them.
 #![tactic(auto)]
 
 ghost use Rattle.std.specs.Prelude.{◌≡◌};
@@ -9,7 +9,7 @@ use dom_kinds::{Kind, Label};
 use dom_tree::{NodeId, Tree};
 use std::alloc::AllocError;
 
-/// Makes a node in the document of a tree, or a document of its own, where a number is left for it.
+/// Makes a node in a document, or as its own document if none is given. Fails if no number is left.
 pub fn made<X: Drop>(
     tree: &mut Tree<X>,
     label: Label,
@@ -22,7 +22,7 @@ pub fn made<X: Drop>(
     tree.make(label, body, document)
 }
 
-// Whether a node is of a kind.
+// Returns whether a node is of a kind.
 fn is_kind<X>(tree: &Tree<X>, id: NodeId, kind: Kind) -> bool
     requires { HasNode tree.now.forest id }
     ensures { result ≡ is_of_kind kind tree.now.forest id }
@@ -30,7 +30,7 @@ fn is_kind<X>(tree: &Tree<X>, id: NodeId, kind: Kind) -> bool
     tree.label(id).kind == kind
 }
 
-/// Puts a root, which is an Element or a Text, into an Element: before one of its children, or last. It answers whether they are such nodes.
+/// Inserts a root, an Element or a Text, into an Element before one of its children, or as the last. Returns false if the nodes are not such.
 pub fn put<X>(tree: &mut Tree<X>, parent: NodeId, child: NodeId, before: Option<NodeId>) -> bool {
     if !(tree.holds(parent) && tree.holds(child)) {
         return false;

@@ -8,7 +8,7 @@ use dom_attrs::Attrs;
 use dom_units::Units;
 use std::alloc::{AllocError, Global};
 
-/// Sets an attribute where there is none of that name. It answers whether it did.
+/// Sets an attribute if there is none with the name, and returns whether it did.
 pub fn set_if_absent(attrs: &mut Attrs, name: String, value: Units) -> Result<bool, AllocError>
     ensures was_absent { IfOk result (λ absent. absent
         ≡ is_none (attribute_value (string_bytes name) attrs.old)) }
@@ -23,7 +23,7 @@ pub fn set_if_absent(attrs: &mut Attrs, name: String, value: Units) -> Result<bo
     Ok(true)
 }
 
-/// Sets the title of an element. What stood there goes.
+/// Sets the title of an element, and drops the old one.
 pub fn set_title(alloc: Global, attrs: &mut Attrs, text: &str) -> Result<(), AllocError>
     ensures reads { OnOk result (attribute_value (codes "title") attrs.new
         ≡ Some (units_of text.now)) }

@@ -1,4 +1,4 @@
-//! Calls of `dom_clone` for which no number need be left, since they make no node.
+//! Calls of `dom_clone` that need no unused number, because they make no node.
 
 ghost use Rattle.std.specs.Prelude.{◌≡◌, Some, true, IsErr, IfErr};
 ghost use Rattle.dom_model.specs.declared.DomError.TheVariants.{NotSupportedError};
@@ -13,7 +13,7 @@ use dom_edit::{Refusal, World};
 use dom_tree::NodeId;
 use std::alloc::Global;
 
-/// Imports a Document into another, which is refused.
+/// Imports a Document into another, which fails.
 pub fn import_document(
     world: &mut World,
     alloc: Global,

@@ -1,4 +1,4 @@
-//! Calls of `dom_data` for which no number need be left, since they make no node.
+//! Calls of `dom_data` that need no unused number, because they make no node.
 
 ghost use Rattle.std.specs.Prelude.{◌≡◌, [], Some, true, IsErr, IfErr, OnOk};
 ghost use Rattle.dom_model.specs.declared.DomError.TheVariants.{IndexSizeError};
@@ -15,7 +15,7 @@ use dom_tree::NodeId;
 use dom_units::Units;
 use std::alloc::{AllocError, Global};
 
-/// Empties a node: of its data, or of all that stands below it where it is an element or a fragment.
+/// Removes the data of a node, or all descendants of an element or a fragment.
 pub fn empty(world: &mut World, alloc: Global, node: NodeId) -> Result<(), AllocError>
     requires whole { IsWhole world.old }
     requires held { HasNode world.old.tree.forest node }
@@ -25,7 +25,7 @@ pub fn empty(world: &mut World, alloc: Global, node: NodeId) -> Result<(), Alloc
     set_text_content(world, alloc, node, Units::new(alloc))
 }
 
-/// Splits a Text past its end, which is refused.
+/// Splits a Text past its end, which fails.
 pub fn split_past_the_end(
     world: &mut World,
     alloc: Global,

@@ -17,7 +17,7 @@ use dom_tree::NodeId;
 use dom_units::Units;
 use std::alloc::{AllocError, Global};
 
-/// Puts an element into the Document of a new world.
+/// Appends an element to the Document of a new world.
 pub fn put_element(alloc: Global, world: &mut World) -> Result<(), AllocError>
     requires keeps { Keeps world.old first_world }
     requires whole { IsWhole world.old }
@@ -31,7 +31,7 @@ pub fn put_element(alloc: Global, world: &mut World) -> Result<(), AllocError>
     Ok(())
 }
 
-/// A Document with an element in it.
+/// Returns a world with an element in its Document.
 pub fn empty_paragraph(alloc: Global) -> Result<World, AllocError>
     ensures keeps { IfOk result (λ world. Keeps world empty_paragraph) }
     ensures whole { IfOk result IsWhole }
@@ -41,7 +41,7 @@ pub fn empty_paragraph(alloc: Global) -> Result<World, AllocError>
     Ok(world)
 }
 
-/// Puts a Text of that data into the element.
+/// Appends a Text with data to the element.
 pub fn put_text(alloc: Global, world: &mut World, text: &str) -> Result<(), AllocError>
     requires keeps { Keeps world.old empty_paragraph }
     requires whole { IsWhole world.old }
@@ -57,7 +57,7 @@ pub fn put_text(alloc: Global, world: &mut World, text: &str) -> Result<(), Allo
     Ok(())
 }
 
-/// A Document with an element in it, and a Text of that data in the element.
+/// Returns a world with an element in its Document, and a Text with data in the element.
 pub fn paragraph(alloc: Global, text: &str) -> Result<World, AllocError>
     ensures keeps { IfOk result (λ world. Keeps world (paragraph (units_of text.now))) }
     ensures whole { IfOk result IsWhole }
@@ -67,7 +67,7 @@ pub fn paragraph(alloc: Global, text: &str) -> Result<World, AllocError>
     Ok(world)
 }
 
-/// Puts a new Text with that data in last under a parent, and answers its number.
+/// Appends a new Text with data to a parent, and returns its number.
 pub fn append_text(
     alloc: Global,
     world: &mut World,
@@ -91,7 +91,7 @@ pub fn append_text(
     Ok(child)
 }
 
-/// Where the ends of a live range stand that had all the data of the Text, once the Text is removed: in its parent, where it stood.
+/// Makes a live range over all data of the Text, removes the Text, and returns the range's ends: the Text's old place in its parent.
 pub fn remove_text(world: &mut World) -> Result<(Point, Point), AllocError>
     requires keeps { (text : List ℕ) × Keeps world.old (paragraph text) }
     requires whole { IsWhole world.old }
@@ -109,7 +109,7 @@ pub fn remove_text(world: &mut World) -> Result<(Point, Point), AllocError>
     Ok(world.ranges.ends(range))
 }
 
-/// The same of a Text with that data in a world of its own.
+/// Makes a world with a Text, removes the Text, and returns the ends of a live range over all its data.
 pub fn ends_after_removal(alloc: Global, text: &str) -> Result<(Point, Point), AllocError>
     ensures start { IfOk result (λ ends. ends.0 ≡ record { node = 1; offset = 0 }) }
     ensures end { IfOk result (λ ends. ends.1 ≡ record { node = 1; offset = 0 }) }

@@ -1,5 +1,5 @@
-//! Callers of the crates that others use, one module for each. The pages `CALLING.md` quote them, but those of `copies` and `data`, which
-//! show calls that need no number left.
+//! Callers of the crates that others use, one module for each. The pages `CALLING.md` quote them, except `copies` and `data`: these show calls that
+//! make no node.
 #![tactic(auto)]
 
 pub mod attrs;

@@ -12,7 +12,7 @@ use dom_observe::{Mutation, ObserverId, Observers, Options, Record};
 use dom_tree::{NodeId, Tree};
 use std::alloc::AllocError;
 
-/// Makes an observer that is told what changes among the children of a node, and of all nodes below it.
+/// Makes an observer of the children of a node and of all its descendants.
 pub fn watch_children(observers: &mut Observers, node: NodeId) -> Result<ObserverId, AllocError>
     requires room { length observers.old.queues < 4294967295 }
     ensures observes { IfOk result (λ id. (x : Observing) → Watches observers.old x →
@@ -32,7 +32,7 @@ pub fn watch_children(observers: &mut Observers, node: NodeId) -> Result<Observe
     Ok(observer)
 }
 
-/// Tells of a change, and takes what one observer has been told until then.
+/// Queues the record of a change, and takes the queued records of one observer.
 pub fn tell_and_take<X>(
     observers: &mut Observers,
     tree: &Tree<X>,

@@ -6,7 +6,7 @@ ghost use Rattle.dom_pages.specs.Numbered.{item_at};
 use dom_pages::{Cell, Pages};
 use std::alloc::AllocError;
 
-/// Gives out two numbers, or none where memory is wanting.
+/// Gives two numbers, or none if it is out of memory.
 pub fn number_two(
     table: &mut Pages<u32>,
     first: u32,
@@ -26,7 +26,7 @@ pub fn number_two(
     Ok((first_number, second_number))
 }
 
-/// Takes a number back. It answers what stood under it.
+/// Clears a number, and returns its item.
 pub fn take(table: &mut Pages<u32>, number: usize) -> Option<u32>
     ensures value { result ≡ item_at table.old.items number }
     ensures gone { item_at table.new.items number ≡ None }
@@ -67,7 +67,7 @@ impl Cell<bool> for Vote {
     }
 }
 
-/// Gives out a number for a yes. The table takes a byte for each number.
+/// Gives a number for a yes. The table takes a byte for each number.
 pub fn number_yes(table: &mut Pages<bool, Vote>) -> Result<usize, AllocError>
     requires room { length table.old.items + 1 ≤ 4294967296 }
     ensures yes { IfOk result (λ number. item_at table.new.items number ≡ Some true) }

@@ -9,7 +9,7 @@ use dom_ranges::{RangeId, Ranges};
 use dom_tree::{Body, NodeId, Tree};
 use std::alloc::AllocError;
 
-/// Makes a live range whose ends both stand at one point of a tree.
+/// Makes a live range with both ends at one point of a tree.
 pub fn make_caret<X: Body>(
     ranges: &mut Ranges,
     tree: &Tree<X>,
@@ -25,7 +25,7 @@ pub fn make_caret<X: Body>(
     ranges.make(tree, at, at)
 }
 
-/// Makes room in front of the data of a node, as for units that are typed there. It answers where a range starts then.
+/// Adjusts live ranges for units that are typed before the data of a node, and returns the start of a range.
 pub fn start_after_typing(ranges: &mut Ranges, range: RangeId, text: NodeId, count: usize) -> Point
     requires held { IsSome (range_in ranges.old range) }
     requires fit { OffsetsFit (after_splice text 0 0 count) ranges.old.ranges }

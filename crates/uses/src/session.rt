@@ -11,7 +11,7 @@ ghost use Rattle.uses.specs.Turns.{AreAnswered};
 use dom_session::{Command, Limits, Making, NodeId, OutOfMemory, Reply, Session, Texts, Units};
 use std::alloc::Global;
 
-/// Sets the data of a node, and reads it. A node without data is refused, and so is a number that names no node.
+/// Sets the data of a node, and reads it. Fails for a node without data, and for a number without a node.
 pub fn set_and_read(
     session: &mut Session,
     node: NodeId,
@@ -27,7 +27,7 @@ pub fn set_and_read(
     Ok((set, read))
 }
 
-/// Makes a Document in a new session: it is node 1, beside the Document that is there from the start.
+/// Makes a Document in a new session. It is node 1, because the session begins with another Document.
 pub fn second_document(alloc: Global) -> Result<Reply, OutOfMemory>
     ensures { IfOk result (λ reply. reply_view reply ≡ model.Done (model.Number 1)) }
 {

@@ -8,7 +8,7 @@ use dom_kinds::Label;
 use dom_tree::{NodeId, Tree};
 use std::alloc::AllocError;
 
-/// Makes a node, last under a parent whose kind lets it stand there.
+/// Makes a node, and appends it to a parent whose kind accepts it.
 pub fn make_under(
     tree: &mut Tree<u32>,
     parent: NodeId,
@@ -31,7 +31,7 @@ pub fn make_under(
     Ok(id)
 }
 
-/// Takes a node from its parent, where it has one: it is a root from then on. It answers the parent.
+/// Removes a node from its parent, if it has one, and returns the parent. The node is a root then.
 pub fn detach(tree: &mut Tree<u32>, node: NodeId) -> Option<NodeId>
     requires { HasNode tree.old.forest node }
     ensures parent { result ≡ parent_of tree.old.forest node }

@@ -6,7 +6,7 @@ ghost use Rattle.dom_model.specs.Forests.Texts.{units_of, is_well_formed_units};
 use dom_units::Units;
 use std::alloc::{AllocError, Global};
 
-/// The units of two texts, one after the other.
+/// Returns the units of two texts, one after the other.
 pub fn joined(alloc: Global, first: &str, second: &str) -> Result<Units, AllocError>
     ensures { IfOk result (λ units. units ≡ units_of first.now ++ units_of second.now) }
 {
@@ -16,7 +16,7 @@ pub fn joined(alloc: Global, first: &str, second: &str) -> Result<Units, AllocEr
     Ok(units)
 }
 
-/// Cuts a text down to so many units. It answers whether each surrogate still has its partner.
+/// Truncates a text to at most `most` units. Returns whether each surrogate still has its partner.
 pub fn shorten(text: &mut Units, most: usize) -> Result<bool, AllocError>
     ensures cut { OnOk result (text.new ≡ take most text.old) }
     ensures well_formed { IfOk result (λ whole. whole ≡ is_well_formed_units text.new) }

@@ -5,7 +5,7 @@ use Rattle.dom_tree.proofs.tree.Tree.new.Goals as goal
 pub invariant_of-result : goal.invariant_of-result
 invariant_of-result g c =
     record {
-      tree = search (tests, rules);
+      tree = rw (c.new.ensures, c.new-2.ensures) (search (tests, rules));
       placed = search (tests, rules);
       blocked = search (tests, rules);
       tallied = λ p t e. absurd (let z : None ≡ Some t = ap (λ table. tally_in table p) (sym c.new-4.ensures) ∙ e in cc z);
