@@ -1,6 +1,6 @@
 -- Which commands change nothing if they are refused memory, so that the session goes on. Ours.
 use Rattle.std.specs.Prelude.{Bool, true, false, ◌||◌}
-use Rattle.dom_model.specs.Commands.Command.{Command, NewDocument, CreateElement, CreateText, CreateComment, CreatePI, CreateDoctype, CreateFragment, DescribeNode, Children, Index, Length, Root, IsContaining, IsEqual, ComparePosition, TextContent, Tree, GetData, SubstringData, GetAttribute, HasAttribute, AttributeNames, CreateRange, CloneRange, DescribeRange, SetStart, SetEnd, SetStartBefore, SetStartAfter, SetEndBefore, SetEndAfter, Collapse, SelectNode, SelectNodeContents, CompareBoundaryPoints, ComparePoint, IsPointInRange, IntersectsNode, CommonAncestor, RangeText, ReleaseRange, CreateIterator, CreateWalker, DescribeIterator, NextNode, PreviousNode, DescribeWalker, SetCurrent, Walk, CreateObserver, Observe, Disconnect, TakeRecords, Pending, CreateStaticRange, DescribeStaticRange, ReleaseIterator, ReleaseWalker, ReleaseStaticRange, ReleaseObserver, TakePending, TellObserver}
+use Rattle.dom_model.specs.Commands.Command.{Command, NewDocument, CreateElement, CreateText, CreateComment, CreatePI, CreateDoctype, CreateFragment, DescribeNode, Children, Index, Length, Root, IsContaining, IsEqual, ComparePosition, TextContent, Tree, GetData, SubstringData, GetAttribute, HasAttribute, AttributeNames, CreateRange, CloneRange, DescribeRange, SetStart, SetEnd, SetStartBefore, SetStartAfter, SetEndBefore, SetEndAfter, Collapse, SelectNode, SelectNodeContents, CompareBoundaryPoints, ComparePoint, IsPointInRange, IntersectsNode, CommonAncestor, RangeText, ReleaseRange, CreateIterator, CreateWalker, DescribeIterator, NextNode, PreviousNode, DescribeWalker, SetCurrent, Walk, CreateObserver, Observe, Disconnect, TakeRecords, Notify, Pending, CreateStaticRange, DescribeStaticRange, ReleaseIterator, ReleaseWalker, ReleaseStaticRange, ReleaseObserver, TakePending, TellObserver}
 
 -- a command that only reads
 abbrev pub is_question : Command → Bool
@@ -63,6 +63,7 @@ is_all_or_nothing (SetCurrent walker node) = true
 is_all_or_nothing (Walk walker move) = true
 is_all_or_nothing (Disconnect observer) = true
 is_all_or_nothing (TakeRecords observer) = true
+is_all_or_nothing Notify = true
 is_all_or_nothing TakePending = true
 is_all_or_nothing (TellObserver observer) = true
 is_all_or_nothing (ReleaseRange range) = true

@@ -2,26 +2,9 @@
 
 ghost use Rattle.std.specs.Prelude.{◌≡◌};
 ghost use Rattle.dom_session.specs.GoingOn.{goes_on};
-ghost use Rattle.dom_session.specs.Views.{command_view, observing_view, texts_view, attributes_view, copying_view, contents_view};
+ghost use Rattle.dom_session.specs.Views.{command_view, texts_view, attributes_view, copying_view, contents_view};
 
-use crate::command::{Attributes, Command, Contents, Copying, Observing, Texts};
-
-// Returns whether the session goes on if a command on observers is refused memory.
-fn observing_goes_on(command: &Observing) -> bool
-    ensures { result ≡ goes_on (observing_view command.now) }
-{
-    match *command {
-        Observing::Notify => false,
-        Observing::CreateObserver
-        | Observing::Observe(_, _, _)
-        | Observing::Disconnect(_)
-        | Observing::TakeRecords(_)
-        | Observing::Pending
-        | Observing::ReleaseObserver(_)
-        | Observing::TakePending
-        | Observing::TellObserver(_) => true,
-    }
-}
+use crate::command::{Attributes, Command, Contents, Copying, Texts};
 
 // Returns whether the session goes on if a command on data or text is refused memory.
 fn texts_goes_on(command: &Texts) -> bool
@@ -90,9 +73,9 @@ pub(crate) fn goes_on(command: &Command) -> bool
         | Command::Setting(_)
         | Command::Comparing(_)
         | Command::StaticRanging(_)
-        | Command::Traversing(_) => true,
+        | Command::Traversing(_)
+        | Command::Observing(_) => true,
         Command::Editing(_) => false,
-        Command::Observing(command) => observing_goes_on(command),
         Command::Texts(command) => texts_goes_on(command),
         Command::Attributes(command) => attributes_goes_on(command),
         Command::Copying(command) => copying_goes_on(command),
