@@ -80,8 +80,7 @@ impl Kept {
 
     // Makes an Element, and stores the reply.
     fn make_element(&mut self, document: NodeId, name: &str) -> u8
-        ensures { Steps (Ok (CreateElement document name.now)) self.old self.new
-            result }
+        ensures { Steps (Ok (CreateElement document name.now)) self.old self.new result }
     {
         if self.ended {
             return HP_OUT_OF_MEMORY;
@@ -95,8 +94,7 @@ impl Kept {
 
     // Makes a Text, and stores the reply.
     fn make_text(&mut self, document: NodeId, text: Units) -> u8
-        ensures { Steps (Ok (CreateText document text)) self.old self.new
-            result }
+        ensures { Steps (Ok (CreateText document text)) self.old self.new result }
     {
         if self.ended {
             return HP_OUT_OF_MEMORY;
@@ -235,8 +233,8 @@ impl Kept {
     /// Makes an Element from a name that was read, or reports its fault.
     pub(crate) fn create_element(&mut self, document: NodeId, name: Result<&str, Fault>) -> u8
         ensures { (c : Result (List ℕ) ℕ) → Reads (λ name. name.now) name.entry c →
-            Steps (then_make c (λ name. Ok (CreateElement document name)))
-            self.old self.new result }
+            Steps (then_make c (λ name. Ok (CreateElement document name))) self.old self.new
+            result }
     {
         match name {
             Ok(name) => self.make_element(document, name),
@@ -247,8 +245,7 @@ impl Kept {
     /// Makes a Text from data that was read, or reports its fault.
     pub(crate) fn create_text(&mut self, document: NodeId, text: Result<Units, Fault>) -> u8
         ensures { (c : Result (List ℕ) ℕ) → Reads (λ text. text) text c →
-            Steps (then_make c (λ text. Ok (CreateText document text))) self.old
-            self.new result }
+            Steps (then_make c (λ text. Ok (CreateText document text))) self.old self.new result }
     {
         match text {
             Ok(text) => self.make_text(document, text),
@@ -259,8 +256,8 @@ impl Kept {
     /// Makes a walker's move that was read, or reports its fault.
     pub(crate) fn walk(&mut self, walker: WalkerId, direction: Result<Move, Fault>) -> u8
         ensures { (c : Result AMove ℕ) → Reads (λ direction. direction) direction c →
-            Steps (then_make c (λ direction. Ok (Walk walker direction)))
-            self.old self.new result }
+            Steps (then_make c (λ direction. Ok (Walk walker direction))) self.old self.new
+            result }
     {
         match direction {
             Ok(direction) => self.move_walker(walker, direction),

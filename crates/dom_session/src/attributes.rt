@@ -191,7 +191,8 @@ pub(crate) fn change_attributes(
     ensures step { IfOk result (λ reply. (b : Bounds) →
         IsStep world.old world.new b (attributes_view command) reply) }
     ensures left { OnErr result (IsKept world.old world.new) }
-    ensures unchanged { goes_on (attributes_view command) ≡ true → OnErr result (world.new ≡ world.old) }
+    ensures unchanged { goes_on (attributes_view command) ≡ true →
+        OnErr result (world.new ≡ world.old) }
 {
     match command {
         Attributes::SetAttribute(element, name, value) => set_attribute(

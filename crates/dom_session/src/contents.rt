@@ -201,7 +201,8 @@ pub(crate) fn change_contents(
     ensures step { IfOk result (IsStep world.old world.new (numbered numbers)
         (contents_view command)) }
     ensures left { OnErr result (IsKept world.old world.new) }
-    ensures unchanged { goes_on (contents_view command) ≡ true → OnErr result (world.new ≡ world.old) }
+    ensures unchanged { goes_on (contents_view command) ≡ true →
+        OnErr result (world.new ≡ world.old) }
 {
     find_ends(world, range_of(&command));
     match command {

@@ -161,7 +161,8 @@ pub(crate) fn copy_nodes(
     ensures step { IfOk result (IsStep world.old world.new (numbered numbers)
         (copying_view command)) }
     ensures left { OnErr result (IsKept world.old world.new) }
-    ensures unchanged { goes_on (copying_view command) ≡ true → OnErr result (world.new ≡ world.old) }
+    ensures unchanged { goes_on (copying_view command) ≡ true →
+        OnErr result (world.new ≡ world.old) }
 {
     match command {
         Copying::ImportNode(document, node, deep) => import_node(

@@ -252,7 +252,8 @@ pub(crate) fn change_texts(
     ensures step { IfOk result (IsStep world.old world.new (numbered numbers)
         (texts_view command)) }
     ensures left { OnErr result (IsKept world.old world.new) }
-    ensures unchanged { goes_on (texts_view command) ≡ true → OnErr result (world.new ≡ world.old) }
+    ensures unchanged { goes_on (texts_view command) ≡ true →
+        OnErr result (world.new ≡ world.old) }
 {
     match command {
         Texts::GetData(node) => data(world, alloc, node),
