@@ -1,5 +1,5 @@
-/* Sessions that go on after an allocation was refused. Each allocation of each question and of each call that makes an object is refused in
- * turn, over a document of some hundred nodes. The call then says that it was refused memory, and its out pointers are as they were. After
+/* Sessions that go on after an allocation was refused. Each allocation of each question, of each call that makes an object and of a notification is
+ * refused in turn, over a document of some hundred nodes. The call then says that it was refused memory, and its out pointers are as they were. After
  * that the session answers two hundred further lines as one that was never asked. Linked with --wrap for malloc, realloc and free. */
 #include "refusing.h"
 #include "wanting.h"
@@ -75,9 +75,9 @@ static void further(struct said *to)
     line(to, "[\"tree\",0]");
 }
 
-/* The questions that take memory, up to QUESTIONS, and the calls that make an object. */
-enum { QUESTIONS = 14,
-    CALLS = 30 };
+/* The questions and the takings of records that take memory, up to QUESTIONS, and the calls that make an object. */
+enum { QUESTIONS = 15,
+    CALLS = 31 };
 
 static uint8_t ask(int number)
 {
@@ -95,7 +95,8 @@ static uint8_t ask(int number)
     case 9: return hp_pending(&session);
     case 10: return hp_print(&session);
     case 11: return hp_take_pending(&session);
-    case 12: return hp_is_point_in_range(&session, 0, 1, 20, &(uint8_t){ 0 });
+    case 12: return hp_notify(&session);
+    case 13: return hp_is_point_in_range(&session, 0, 1, 20, &(uint8_t){ 0 });
     default: return hp_get_attribute(&session, 2, (const uint8_t *)tree, sizeof tree - 1);
     }
 }
