@@ -32,7 +32,13 @@ HEAD = """\
 OCTETS = {"line", "names", "verdicts"}
 SLICES = {"uint8_t": "name_of", "uint16_t": "text_of", "uint32_t": "numbers_of"}
 LENT = {"hp_bytes": "name_from({0}.bytes, {0}.length)", "hp_text_view": "text_from({0}.units, {0}.length)"}
-NUMBERS = {"uint8_t": "PyBool_FromLong({})", "int8_t": "PyLong_FromLong({})", "uint32_t": "PyLong_FromUnsignedLong({})", "size_t": "PyLong_FromSize_t({})"}
+NUMBERS = {
+    "uint8_t": "PyBool_FromLong({})",
+    "int8_t": "PyLong_FromLong({})",
+    "uint32_t": "PyLong_FromUnsignedLong({})",
+    "uint64_t": "PyLong_FromUnsignedLongLong({})",
+    "size_t": "PyLong_FromSize_t({})",
+}
 READ = {"numbers": "numbers_answer({})", "names": "names_answer({})", "text": "text_answer({})", "text?": "text_answer({})"}
 # Calls that may take long, while which other threads run; and the word that says whether one does.
 LONG = {"hp_clone_node": "deep", "hp_import_node": "deep", "hp_close": None}

@@ -78,12 +78,60 @@ static void transient(void)
     are(1, 0, 0, 0, 0, 0, 0);
 }
 
+/* How many nodes were ever made, told without taking memory. */
+static uint64_t made(void)
+{
+    uint64_t found = 7;
+    refuse(1);
+    WANT(hp_nodes_made(&session, &found) == HP_OK);
+    counts = false;
+    WANT(asked == 0);
+    return found;
+}
+
+/* Discards the nodes that were made since, as far as they stand alone, and tells how many. */
+static size_t discarded(uint64_t since)
+{
+    size_t found = 0;
+    for (uint64_t at = since; at < made(); at++) {
+        uint8_t status = hp_discard(&session, (uint32_t)at);
+        WANT(status == HP_OK || status == HP_IN_USE);
+        found += status == HP_OK;
+    }
+    return found;
+}
+
+/* Surrounding makes a fragment that no answer names. It is found by its number and let go, so however often a node is surrounded, as many are there. */
+static void unnamed(void)
+{
+    uint64_t first = made();
+    uint32_t top = tree(), range = range_over(top), child = HP_NONE;
+    WANT(top == first && made() == first + 2);
+    WANT(hp_first_child(&session, top, &child) == HP_OK);
+    for (size_t turn = 0; turn < SOME; turn++) {
+        uint32_t parent = HP_NONE;
+        WANT(hp_create_element(&session, 0, hp_name("around"), &parent) == HP_OK);
+        uint64_t before = made();
+        WANT(before == parent + (uint64_t)1);
+        WANT(hp_surround_contents(&session, range, parent) == HP_OK && made() == before + 1);
+        are(5, 1, 0, 0, 0, 0, 0);
+        WANT(discarded(before) == 1 && made() == before + 1);
+        are(4, 1, 0, 0, 0, 0, 0);
+        WANT(hp_insert_before(&session, top, child, parent) == HP_OK && hp_remove(&session, parent) == HP_OK);
+        WANT(hp_discard(&session, parent) == HP_OK && hp_select_node_contents(&session, range, top) == HP_OK);
+        are(3, 1, 0, 0, 0, 0, 0);
+    }
+    WANT(hp_release_range(&session, range) == HP_OK && hp_discard(&session, top) == HP_OK);
+    are(1, 0, 0, 0, 0, 0, 0);
+}
+
 /* The answer that was there stays. */
 static void stays(void)
 {
     size_t count = 7;
     WANT(hp_children(&session, 0) == HP_OK);
     are(1, 0, 0, 0, 0, 0, 0);
+    WANT(made() > 0);
     WANT(hp_count(&session, &count) == HP_OK && count == 0);
 }
 
@@ -137,6 +185,7 @@ int main(void)
     WANT(hp_open(&session, 4294967295u, 1000) == HP_OK);
     each();
     transient();
+    unnamed();
     stays();
     many(range_over, (hp_release_range), ranges_of);
     many(static_range_over, (hp_release_static_range), static_ranges_of);

@@ -1065,6 +1065,19 @@ static PyObject *call_in_use(PyObject *self, PyObject *words)
     return found;
 }
 
+static PyObject *call_nodes_made(PyObject *self, PyObject *words)
+{
+    uint64_t count = 0;
+    if (is_busy((Calls *)self))
+        return NULL;
+    PyObject *found = NULL;
+    if (is_counted(words, 0, "nodes_made")) {
+        uint8_t status = hp_nodes_made(session_at(self), &count);
+        found = status ? refused(status, "nodes_made", self, words) : PyLong_FromUnsignedLongLong(count);
+    }
+    return found;
+}
+
 static PyObject *call_data(PyObject *self, PyObject *words)
 {
     uint32_t node = 0;
@@ -2143,6 +2156,7 @@ static PyObject *call_read_get_attribute(PyObject *self, PyObject *words)
     { "name_of", call_name_of, METH_VARARGS, NULL }, \
     { "data_of", call_data_of, METH_VARARGS, NULL }, \
     { "in_use", call_in_use, METH_VARARGS, NULL }, \
+    { "nodes_made", call_nodes_made, METH_VARARGS, NULL }, \
     { "data", call_data, METH_VARARGS, NULL }, \
     { "set_data", call_set_data, METH_VARARGS, NULL }, \
     { "append_data", call_append_data, METH_VARARGS, NULL }, \

@@ -157,6 +157,7 @@ PARAMETERS: Dict[str, Tuple[str, ...]] = {
     "data_of": ("node",),
     "attribute_at": ("node", "index",),
     "in_use": (),
+    "nodes_made": (),
     "data": ("node",),
     "set_data": ("node", "data",),
     "append_data": ("node", "data",),

@@ -268,6 +268,7 @@ extern "C" {
     fn hp_data_of(session: *mut hp_session, node: u32, out: *mut hp_text_view) -> u8;
     fn hp_attribute_at(session: *mut hp_session, node: u32, index: usize, name: *mut hp_bytes, value: *mut hp_text_view) -> u8;
     fn hp_in_use(session: *mut hp_session, counts: *mut hp_counts) -> u8;
+    fn hp_nodes_made(session: *mut hp_session, count: *mut u64) -> u8;
     fn hp_data(session: *mut hp_session, node: u32) -> u8;
     fn hp_set_data(session: *mut hp_session, node: u32, data: *const u16, data_length: usize) -> u8;
     fn hp_append_data(session: *mut hp_session, node: u32, data: *const u16, data_length: usize) -> u8;
@@ -824,6 +825,13 @@ impl Handle {
         let mut out = hp_counts::default();
         // SAFETY: as at the head of the file.
         let status = read(unsafe { hp_in_use(self.session.get(), &mut out) });
+        if status == HP_OK { Ok(out) } else { Err(status) }
+    }
+
+    pub(crate) fn nodes_made(&self) -> Result<u64, u8> {
+        let mut out = 0;
+        // SAFETY: as at the head of the file.
+        let status = read(unsafe { hp_nodes_made(self.session.get(), &mut out) });
         if status == HP_OK { Ok(out) } else { Err(status) }
     }
 

@@ -3,7 +3,7 @@ use Rattle.std.specs.Prelude.{◌≡◌, ℕ, Bool, true, false, Option, Some, N
 use Rattle.dom_model.specs.Worlds.World.{World}
 use Rattle.dom_session.specs.declared.in_use.Counts as found
 use Rattle.dom_session.specs.InUse.{in_use_of, in_use_in}
-use Rattle.dom_wire.specs.Sessions.{Held, StandsFor}
+use Rattle.dom_wire.specs.Sessions.{Held, StandsFor, held_world}
 use Rattle.dom_c.specs.Statuses.{has_ended, closed}
 use Rattle.dom_c.specs.declared.kept.Kept.{Kept}
 use Rattle.dom_c.specs.declared.handle.Handle.{Handle}
@@ -27,6 +27,14 @@ in_use_told w = counts_told (in_use_of w)
 -- the same of what a session holds, also once it has ended
 abbrev pub in_use_held : Held → Counts
 in_use_held s = counts_told (in_use_in s.world)
+
+-- how many nodes a world has ever made
+abbrev pub made_told : World → ℕ
+made_told w = w.made
+
+-- the same of what a session holds, also once it has ended
+abbrev pub made_held : Held → ℕ
+made_held s = (held_world s).made
 
 -- what the session's world says is written, and nothing is refused
 pub record IsTold {A : Type 0} (tell : World → A) (kept : Kept) (after : A) (status : ℕ) : Type 0 where

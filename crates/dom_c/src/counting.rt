@@ -1,9 +1,9 @@
-//! The number of objects in a session, read without a command: the last answer stays, and no memory is taken.
+//! The numbers of objects in a session, read without a command: the last answer stays, and no memory is taken.
 
 ghost use Rattle.std.specs.Prelude.{◌≡◌};
 ghost use Rattle.dom_model.specs.Worlds.World.{World};
 ghost use Rattle.dom_wire.specs.Sessions.{StandsFor};
-ghost use Rattle.dom_c.specs.Counting.{TellsWorld, counts_told, in_use_told, in_use_held};
+ghost use Rattle.dom_c.specs.Counting.{TellsWorld, counts_told, in_use_told, in_use_held, made_told, made_held};
 
 use crate::handle::Handle;
 use crate::kept::Kept;
@@ -46,6 +46,13 @@ impl Kept {
     {
         counts_told(self.session.in_use())
     }
+
+    fn nodes_made(&self) -> u64
+        ensures shown { (w : World) → StandsFor self.now.session w → result ≡ made_told w }
+        ensures held { result ≡ made_held self.now.session }
+    {
+        self.session.nodes_made()
+    }
 }
 
 /// Writes the number of objects of each kind, in constant time, so that a host can tell its garbage collector the session's size.
@@ -60,4 +67,20 @@ pub extern "C" fn hp_in_use(handle: &mut Handle, counts: &mut Counts) -> u8
     let kept = &handle.slot.lend().kept;
     *counts = kept.in_use();
     kept.found()
+}
+
+/// Writes how many nodes were ever made, in constant time. They have the numbers below it, discarded ones too. If a call raises it, the nodes that the
+/// call made have the numbers from the earlier count on, so a host can discard fragments that no answer names.
+#[unsafe(no_mangle)]
+pub extern "C" fn hp_nodes_made(handle: &mut Handle, count: &mut u64) -> u8
+    ensures kept { handle.new.slot.kept ≡ handle.old.slot.kept }
+    ensures told { TellsWorld handle.old made_told made_held count.old count.new result }
+{
+    if handle.is_open {
+        let kept = &handle.slot.lend().kept;
+        *count = kept.nodes_made();
+        kept.found()
+    } else {
+        HP_CLOSED
+    }
 }

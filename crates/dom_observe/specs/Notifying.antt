@@ -1,14 +1,10 @@
 -- What pending observers are told, and what that leaves.
-use Rattle.std.specs.Prelude.{◌≡◌, ℕ, if◌then◌else◌, List, [], map, filter, Option, is_none, Vec}
+use Rattle.std.specs.Prelude.{◌≡◌, ℕ, if◌then◌else◌, List, [], map, filter, Option, is_none}
 use Rattle.dom_model.specs.PlainLists.Lists.{among}
 use Rattle.dom_model.specs.Worlds.World.{Registration}
 use Rattle.dom_model.specs.MutationObservers.Record.{Record, Told}
 use Rattle.dom_model.specs.MutationObservers.Records.{has_records}
 use Rattle.dom_observe.specs.Watchers.{Watchers, on, records_at}
-
--- observers with their records, as the definitions have them
-abbrev pub told_of : {A : Type 0} → List (ℕ × Vec Record A) → List Told
-told_of told = map (λ t. record { observer = t.0; records = t.1.items }) told
 
 -- an observer and what is in its queue
 abbrev pub waiting_for : List (Option (List Record)) → ℕ → Told

@@ -24,4 +24,4 @@ pub use dom_model::RecordType;
 pub use observer_id::{ObserverId, OfObserver};
 pub use observers::Observers;
 pub use options::{Options, RawOptions, settle};
-pub use record::{Mutation, Record};
+pub use record::{Mutation, Record, Told};

@@ -6,12 +6,12 @@ ghost use Rattle.dom_model.specs.PlainLists.Lists.{among};
 ghost use Rattle.dom_model.specs.MutationObservers.Records.{has_records};
 ghost use Rattle.dom_observe.specs.Kept.{AllThere};
 ghost use Rattle.dom_observe.specs.Naming.{TellsNone};
-ghost use Rattle.dom_observe.specs.Notifying.{told_of, waiting_for};
+ghost use Rattle.dom_observe.specs.Notifying.{waiting_for};
 ghost use Rattle.dom_observe.specs.Roster.{keys_by, queues_by, is_there, records_of};
 
 use crate::observer_id::ObserverId;
 use crate::queues::take_from;
-use crate::record::Record;
+use crate::record::Told;
 use crate::roster::Roster;
 use indexmap::IndexSet;
 use std::alloc::{AllocError, Global};
@@ -23,9 +23,9 @@ pub(crate) fn gather(
     pending: &IndexSet<ObserverId>,
     roster: &mut Roster,
     alloc: Global,
-) -> Result<Vec<(ObserverId, Vec<Record>)>, AllocError>
+) -> Result<Vec<Told>, AllocError>
     requires { AllThere (is_there roster.old) pending.now.keys }
-    ensures told { IfOk result (λ told. told_of told.items
+    ensures told { IfOk result (λ told. told.items
         ≡ filter has_records (map (waiting_for (queues_by roster.old)) pending.now.keys)) }
     ensures emptied { OnOk result ((p : ℕ) → records_of roster.new p
         ≡ (if among p pending.now.keys then [] else records_of roster.old p)) }
@@ -38,9 +38,10 @@ pub(crate) fn gather(
     let mut told = Vec::with_capacity(alloc, pending.len())?;
     for index in 0..pending.len() {
         if let Some(observer) = pending.get_index(index) {
-            let records = take_from(roster, *observer, alloc);
+            let observer = *observer;
+            let records = take_from(roster, observer, alloc);
             if !records.is_empty() {
-                told.push_reserved((*observer, records));
+                told.push_reserved(Told { observer, records });
             }
         }
     }

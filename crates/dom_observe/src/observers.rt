@@ -9,7 +9,7 @@ ghost use Rattle.dom_model.specs.MutationObservers.Observing.{standing_on, noted
 ghost use Rattle.dom_model.specs.MutationObservers.Records.{queue_of, observed, with_observer, records_taken, disconnected, released_observer, told, after_notify, pending_taken, observer_told};
 ghost use Rattle.dom_observe.specs.Held.{named, nodes_of_mutation, NamesNoneOf, NamesOnly, SameObservers};
 ghost use Rattle.std.specs.List.{list_any};
-ghost use Rattle.dom_observe.specs.Notifying.{told_of, waiting_in, IsNotified};
+ghost use Rattle.dom_observe.specs.Notifying.{waiting_in, IsNotified};
 ghost use Rattle.dom_observe.specs.Once.{once};
 ghost use Rattle.dom_observe.specs.Refused.{IsPartlyQueued, IsPartlyLeft, IsPartlyRemoved};
 ghost use Rattle.dom_observe.specs.Removed.{removed_below};
@@ -23,7 +23,7 @@ use crate::notifying::gather;
 use crate::observer_id::ObserverId;
 use crate::options::Options;
 use crate::queues::{catch_up_each, take_from};
-use crate::record::{Mutation, Record};
+use crate::record::{Mutation, Record, Told};
 use crate::registration::{Ended, Ending, Lifetime, Registration};
 use crate::registrations::Registrations;
 use crate::roster::Roster;
@@ -383,10 +383,10 @@ impl Observers {
     /// Returns the records of the pending observers, and ends every transient registration ("notify mutation observers").
     ///
     /// Records of an observer that was taken from the pending list and not notified since go on waiting. After an error nothing has changed.
-    pub fn notify(&mut self) -> Result<Vec<(ObserverId, Vec<Record>)>, AllocError>
-        ensures told { IfOk result (λ all. Answers told self.old (told_of all.items)) }
+    pub fn notify(&mut self) -> Result<Vec<Told>, AllocError>
+        ensures told { IfOk result (λ all. Answers told self.old all.items) }
         ensures after { OnOk result (Steps after_notify self.old self.new) }
-        ensures own { IfOk result (λ all. told_of all.items
+        ensures own { IfOk result (λ all. all.items
             ≡ waiting_in self.old.queues self.old.pending) }
         ensures notified { OnOk result (IsNotified self.old self.new) }
         ensures err { OnErr result (self.new ≡ self.old) }

@@ -4,6 +4,7 @@ ghost use Rattle.std.specs.Prelude.{◌≡◌, IfOk, None, if◌then◌else◌};
 ghost use Rattle.dom_model.specs.MutationObservers.Records.{record_with};
 ghost use Rattle.dom_observe.specs.Names.{name_of, text_of};
 
+use crate::observer_id::ObserverId;
 use crate::registration::Question;
 use dom_model::RecordType;
 use dom_tree::NodeId;
@@ -39,6 +40,24 @@ impl Model for Record {
       next = r.next;
       name = name_of r.name;
       old_value = r.old_value;
+    } };
+}
+
+/// An observer, and the records that it receives.
+#[derive(Debug, Drop)]
+pub struct Told {
+    pub observer: ObserverId,
+    pub records: Vec<Record>,
+}
+
+impl Model for Told {
+    ghost use Rattle.dom_model.specs.MutationObservers.Record.{Told as PlainTold};
+
+    ghost Value = { PlainTold };
+
+    ghost view = { λ t. record {
+      observer = t.observer;
+      records = t.records.items;
     } };
 }
 

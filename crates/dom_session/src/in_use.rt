@@ -36,3 +36,11 @@ pub(crate) fn in_use(world: &World) -> Counts
         registrations: world.observers.registrations(),
     }
 }
+
+/// Returns how many nodes were ever made. They have the numbers below it.
+pub(crate) fn nodes_made(world: &World) -> u64
+    ensures shown { (w : PlainWorld) → Shows world.now w → result ≡ w.made }
+    ensures own { result ≡ world.now.tree.made }
+{
+    world.tree.made()
+}

@@ -40,7 +40,7 @@ pub use command::{
 pub use dom_edit::Content;
 pub use dom_kinds::{DomError, Kind, Label};
 pub use dom_model::{Move, OwnError, RecordType, Verdict};
-pub use dom_observe::{ObserverId, RawOptions, Record};
+pub use dom_observe::{ObserverId, RawOptions, Record, Told};
 pub use dom_point::Point;
 pub use dom_ranges::{RangeId, StaticId};
 pub use dom_traverse::{Filter, IteratorId, Rule, WalkerId};
@@ -48,5 +48,5 @@ pub use dom_tree::NodeId;
 pub use dom_units::{Units, text_of};
 pub use in_use::Counts;
 pub use links::Links;
-pub use reply::{Answer, Description, Reply, Told, TreeRow};
+pub use reply::{Answer, Description, Reply, TreeRow};
 pub use session::{Ended, Limits, Session};

@@ -3,7 +3,6 @@
 ghost use Rattle.std.specs.Prelude.{◌≡◌, ◌≤◌, IfOk, OnErr};
 ghost use Rattle.dom_model.specs.Commands.Command.{CreateObserver, Observe, Disconnect, TakeRecords, Notify, Pending, ReleaseObserver, TakePending, TellObserver};
 ghost use Rattle.dom_model.specs.Commands.Guards.{Bounds};
-ghost use Rattle.dom_observe.specs.Notifying.{told_of};
 ghost use Rattle.dom_edit.specs.Whole.{IsShown};
 ghost use Rattle.dom_session.specs.Views.{observing_view};
 ghost use Rattle.dom_session.specs.Stands.{IsStep};
@@ -12,10 +11,10 @@ ghost use Rattle.dom_session.specs.Limiting.{numbered};
 
 use crate::brief::Brief;
 use crate::command::Observing;
-use crate::reply::{Answer, Reply, Told};
+use crate::reply::{Answer, Reply};
 use dom_edit::World;
 use dom_model::OwnError;
-use dom_observe::{ObserverId, Observers, RawOptions, Record, settle};
+use dom_observe::{ObserverId, Observers, RawOptions, settle};
 use dom_tree::NodeId;
 use std::alloc::{AllocError, Global};
 
@@ -92,25 +91,15 @@ pub(crate) fn take_records(world: &mut World, observer: ObserverId) -> Reply
     Reply::Done(Answer::Records(world.observers.take(observer)))
 }
 
-// Returns each observer with its records, which are moved.
-fn all_told(alloc: Global, all: Vec<(ObserverId, Vec<Record>)>) -> Result<Vec<Told>, AllocError>
-    ensures { IfOk result (λ told. told.items ≡ told_of all.items) }
-{
-    let mut told: Vec<Told> = Vec::new(alloc);
-    for (observer, records) in all {
-        told.push(Told { observer, records })?;
-    }
-    Ok(told)
-}
-
 /// Notifies each pending observer with its records, in the order in which they became pending ("notify mutation observers").
-pub(crate) fn notify(world: &mut World, alloc: Global) -> Result<Reply, AllocError>
+pub(crate) fn notify(world: &mut World) -> Result<Reply, AllocError>
     requires shown { IsShown world.old }
     ensures step { IfOk result (λ reply. (b : Bounds) → IsStep world.old world.new b Notify reply) }
+    ensures unchanged { OnErr result (world.new ≡ world.old) }
     ensures left { OnErr result (IsKept world.old world.new) }
 {
-    let all = world.observers.notify()?;
-    Ok(Reply::Done(Answer::Notified(all_told(alloc, all)?)))
+    let told = world.observers.notify()?;
+    Ok(Reply::Done(Answer::Notified(told)))
 }
 
 // Returns the numbers of the pending observers, in their order.
@@ -178,7 +167,7 @@ pub(crate) fn watch(
         Observing::Observe(observer, node, options) => observe(world, observer, node, options),
         Observing::Disconnect(observer) => Ok(disconnect(world, observer)),
         Observing::TakeRecords(observer) => Ok(take_records(world, observer)),
-        Observing::Notify => notify(world, alloc),
+        Observing::Notify => notify(world),
         Observing::Pending => pending(world, alloc),
         Observing::ReleaseObserver(observer) => Ok(release_observer(world, observer)),
         Observing::TakePending => take_pending(world, alloc),

@@ -6,7 +6,7 @@ ghost use Rattle.dom_session.specs.Refusing.{reply_to};
 use crate::brief::Brief;
 use dom_edit::{Content, Refusal};
 use dom_kinds::Label;
-use dom_observe::{ObserverId, Record};
+use dom_observe::{Record, Told};
 use dom_point::Point;
 use dom_tree::NodeId;
 use dom_units::Units;
@@ -47,21 +47,6 @@ impl Model for TreeRow {
     ghost Value = { TreeRow };
 
     ghost view = { λ r. record { depth = r.depth; number = r.number; label = r.label; body = r.body } };
-}
-
-/// An observer, and the records that it receives.
-#[derive(Drop)]
-pub struct Told {
-    pub observer: ObserverId,
-    pub records: Vec<Record>,
-}
-
-impl Model for Told {
-    ghost use Rattle.dom_model.specs.MutationObservers.Record.{Told};
-
-    ghost Value = { Told };
-
-    ghost view = { λ t. record { observer = t.observer; records = t.records.items } };
 }
 
 /// An answer that a `Brief` cannot have, one variant for each shape.

@@ -413,4 +413,14 @@ impl Session {
     {
         in_use::in_use(&self.world)
     }
+
+    /// Returns how many nodes were ever made, in constant time. They have the numbers below it. It applies no command and takes no memory.
+    ///
+    /// So the nodes that a call made are those from the number before it to the number after it.
+    pub fn nodes_made(&self) -> u64
+        ensures shown { (w : PlainWorld) → StandsFor self.now w → result ≡ w.made }
+        ensures own { result ≡ (held_world self.now).made }
+    {
+        in_use::nodes_made(&self.world)
+    }
 }

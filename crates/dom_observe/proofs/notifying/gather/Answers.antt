@@ -1,15 +1,11 @@
 -- The next pending observer is told what waits for it.
-use Rattle.std.proofs.Common.{◌≡◌, ℕ, suc, ◌+◌, ◌==◌, ◌++◌, [], ◌∷◌, Bool, true, false, if◌then◌else◌, List, Some, None, length, filter, map, take, refl, ap, sym, ◌∙◌, arith, option_copied, nat_eq, tests, rules, slice_get, Vec}
+use Rattle.std.proofs.Common.{◌≡◌, ℕ, suc, ◌+◌, ◌==◌, [], Bool, true, false, if◌then◌else◌, List, Some, None, length, filter, map, take, refl, ap, sym, ◌∙◌, arith, option_copied, nat_eq, tests, rules, slice_get}
 use Rattle.std.proofs.lemmas.List.{take_all}
 use Rattle.std.specs.List.{IsDistinct, list_any}
 use Rattle.dom_model.specs.Definitions.{among, Record, has_records, nodes_of_record}
-use Rattle.dom_observe.specs.{Kept.has_queue, Notifying.told_of, Notifying.waiting_for, Roster.queues_by, Watchers.records_at}
+use Rattle.dom_observe.specs.{Kept.has_queue, Notifying.waiting_for, Roster.queues_by, Watchers.records_at}
 use Rattle.dom_observe.proofs.{EndedOnes.at-get, Rosters.has-same, Gathered.told-some, Gathered.told-none, Gathered.left-next, Hearing.take-none, Holding.tells-left, notifying.gather.Goals.in-Some+then-not-is_empty, notifying.gather.Goals.in-Some+else-not-is_empty, notifying.gather.Goals.in_default}
 use Rattle.dom_observe.proofs.notifying.gather.Goals as goal
-
-told_of-push : {A : Type 0} (xs : List (ℕ × Vec Record A)) (x : ℕ × Vec Record A) → told_of (xs ++ x ∷ []) ≡ told_of xs ++ record { observer = x.0; records = x.1.items } ∷ []
-told_of-push [] x = refl
-told_of-push (y ∷ xs) x = ap (λ ts. record { observer = y.0; records = y.1.items } ∷ ts) (told_of-push xs x)
 
 -- the next pending observer is still there
 pub take_from-records-requires : goal.take_from-records-requires
@@ -37,10 +33,10 @@ loop-index-preserved c =
           let there = has-same c.args.roster.now c.loop-index.roster inv.keys o ∙ at-get (λ p. has_queue qs0 p ≡ true) keys i o c.requires at in
           let some : (length w.take_from-records.result.items == 0) ≡ false = ap (λ l. l == 0) (sym w.take_from-records.result.ok.0) ∙ sym w.is_empty.ensures ∙ w.if-not-is_empty.true in
           let left = left-next qs0 qs (queues_by w.take_from-records.new.roster) keys i o at unique there inv.left w.take_from-records.ensures.emptied in
-          let told = told-some qs0 qs (queues_by w.take_from-records.new.roster) keys i o at unique there inv.left w.take_from-records.ensures.emptied w.take_from-records.result.items w.take_from-records.ensures.records some (told_of c.loop-index.told.items) inv.told in
+          let told = told-some qs0 qs (queues_by w.take_from-records.new.roster) keys i o at unique there inv.left w.take_from-records.ensures.emptied w.take_from-records.result.items w.take_from-records.ensures.records some c.loop-index.told.items inv.told in
           rw (w.roster-is, w.told-is) (record {
             keys = w.take_from-records.ensures.keys ∙ inv.keys;
-            told = ap told_of w.push_reserved.ensures.items ∙ told_of-push c.loop-index.told.items (o, w.take_from-records.result) ∙ told ∙ ap (λ j. filter has_records (map (waiting_for qs0) (take j keys))) (sym next);
+            told = w.push_reserved.ensures.items ∙ told ∙ ap (λ j. filter has_records (map (waiting_for qs0) (take j keys))) (sym next);
             left = λ p. left p ∙ ap (λ j. if among p (take j keys) then [] else records_at qs0 p) (sym next);
             many = omega (arith, inv.many, w.push_reserved.ensures.len);
             room = omega (arith, inv.room, w.push_reserved.ensures.capacity);
