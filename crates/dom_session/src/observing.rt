@@ -1,12 +1,13 @@
 //! The commands on mutation observers (DOM Standard, "Mutation observers").
 
-ghost use Rattle.std.specs.Prelude.{◌≡◌, ◌≤◌, IfOk, OnErr};
+ghost use Rattle.std.specs.Prelude.{◌≡◌, ◌≤◌, IfOk, OnErr, true};
 ghost use Rattle.dom_model.specs.Commands.Command.{CreateObserver, Observe, Disconnect, TakeRecords, Notify, Pending, ReleaseObserver, TakePending, TellObserver};
 ghost use Rattle.dom_model.specs.Commands.Guards.{Bounds};
 ghost use Rattle.dom_edit.specs.Whole.{IsShown};
 ghost use Rattle.dom_session.specs.Views.{observing_view};
 ghost use Rattle.dom_session.specs.Stands.{IsStep};
 ghost use Rattle.dom_session.specs.Ending.{IsKept};
+ghost use Rattle.dom_session.specs.GoingOn.{goes_on};
 ghost use Rattle.dom_session.specs.Limiting.{numbered};
 
 use crate::brief::Brief;
@@ -24,6 +25,7 @@ pub(crate) fn create_observer(world: &mut World, numbers: u64) -> Result<Reply, 
     requires shown { IsShown world.old }
     ensures step { IfOk result (IsStep world.old world.new (numbered numbers) CreateObserver) }
     ensures left { OnErr result (IsKept world.old world.new) }
+    ensures unchanged { OnErr result (world.new ≡ world.old) }
 {
     if numbers <= world.observers.made() as u64 {
         return Ok(Reply::Brief(Brief::Own(OwnError::Limit)));
@@ -43,6 +45,7 @@ pub(crate) fn observe(
     ensures step { IfOk result (λ reply. (b : Bounds) →
         IsStep world.old world.new b (Observe observer node options) reply) }
     ensures left { OnErr result (IsKept world.old world.new) }
+    ensures unchanged { OnErr result (world.new ≡ world.old) }
 {
     if !world.observers.holds(observer) || !world.tree.holds(node) {
         return Ok(Reply::Brief(Brief::Own(OwnError::NoSuchObject)));
@@ -161,6 +164,7 @@ pub(crate) fn watch(
     ensures step { IfOk result (IsStep world.old world.new (numbered numbers)
         (observing_view command)) }
     ensures left { OnErr result (IsKept world.old world.new) }
+    ensures unchanged { goes_on (observing_view command) ≡ true → OnErr result (world.new ≡ world.old) }
 {
     match command {
         Observing::CreateObserver => create_observer(world, numbers),
