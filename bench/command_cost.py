@@ -21,6 +21,17 @@ BATCH = 100
 LINES = 1000
 
 
+class Refused(list):
+    """A line that is to be refused, as the tree may not be so."""
+
+
+def begins(line):
+    """How the reply to a line begins."""
+    if isinstance(line, Refused):
+        return b'{"error":"HierarchyRequestError"'
+    return b'{"ok"' if line else b'{"error":"bad-json"'
+
+
 def answered(program, lines):
     """The program's replies to lines, each read as it is given: as many lines are under way as a pipe holds. None stands for an empty line."""
     for at in range(0, len(lines), BATCH):
@@ -29,7 +40,7 @@ def answered(program, lines):
         program.stdin.flush()
         for line in batch:
             reply = program.stdout.readline()
-            if not reply.startswith(b'{"ok"' if line else b'{"error":"bad-json"'):
+            if not reply.startswith(begins(line)):
                 sys.exit(f"{json.dumps(line)} was answered {reply.decode()[:80]!r}")
 
 

@@ -11,6 +11,7 @@ import tempfile
 
 from command_cost import empty_line, instructions, takes_words
 from command_scenes import deleted_after_the_first, inserted_beside_an_end, normalized_beside_an_end, normalized_chain, removed_beside_an_end, split_beside_an_end
+from document_scenes import DOCUMENT_SCENES
 from midst_scenes import MIDST_SCENES
 from running import words_of
 
@@ -222,6 +223,7 @@ SCENES = (
     ("deleteData of the last unit of a Text, and appendData", last_unit_goes, 1000),
     ("removeAttribute of the last attribute, and setAttribute", last_attribute_goes, 500),
     *MIDST_SCENES,
+    *DOCUMENT_SCENES,
 )
 
 

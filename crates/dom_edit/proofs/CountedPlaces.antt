@@ -9,7 +9,7 @@ use Rattle.dom_edit.proofs.{AmongChildren.count_kind-cons, AmongChildren.has_kin
 
 module _ {X : Type 0} (k : Kind) (f : Forest X) where
   -- a count of a list, around one number of it
-  count-split : (c : ℕ) (xs : List ℕ) → hits c xs ≡ 1 → count_kind k f xs ≡ count_kind k f (up_to c xs) + (count_kind k f (c ∷ []) + count_kind k f (past c xs))
+  pub count-split : (c : ℕ) (xs : List ℕ) → hits c xs ≡ 1 → count_kind k f xs ≡ count_kind k f (up_to c xs) + (count_kind k f (c ∷ []) + count_kind k f (past c xs))
   count-split c [] h = absurd (omega arith)
   count-split c (x ∷ xs) h =
       elim (same_or x c) [
@@ -54,6 +54,18 @@ any-of a b c x h =
 
 no-of : (a b c : ℕ) (x : Bool) → a + (b + c) ≡ 0 → x ≡ (not (nat_eq a 0) || (not (nat_eq b 0) || (not (nat_eq c 0) || x)))
 no-of a b c x h = rw (none-of a (omega arith), none-of b (omega arith), none-of c (omega arith)) refl
+
+-- one of three is the first, or one of the others
+one-side : (a b c : ℕ) → a + (b + c) ≡ 1 → not (not (nat_eq a 0)) ≡ (not (nat_eq b 0) || not (nat_eq c 0))
+one-side a b c h =
+    elim (same_or a 0) [
+      | apart na t ↦ rw (some-of a (omega arith), none-of b (omega arith), none-of c (omega arith)) refl
+      | same ea t ↦
+          elim (same_or b 0) [
+            | apart nb t2 ↦ rw (none-of a ea, some-of b (omega arith)) refl
+            | same eb t2 ↦ rw (none-of a ea, none-of b eb, some-of c (omega arith)) refl
+          ]
+    ]
 
 module _ {X : Type 0} (f : Forest X) (p : ℕ) (place : Place) where
   abbrev ahead : List ℕ
@@ -111,6 +123,21 @@ module _ {X : Type 0} (f : Forest X) (p : ℕ) (place : Place) where
     pub doctype-alone : count_around DocumentType f p place ≡ 0 → count_around Element f p place ≡ 0 → false ≡ refuses place DocumentType f p n
     doctype-alone h e =
         (rw (has DocumentType ahead, has DocumentType (staying place), has DocumentType past_it, has Element ahead, none-of (count_kind DocumentType f ahead) (omega arith), none-of (count_kind DocumentType f (staying place)) (omega arith), none-of (count_kind DocumentType f past_it) (omega arith), none-of (count_kind Element f ahead) (omega arith)) refl)
+        ∙ doctype-read
+
+    -- where the one doctype is ahead, an element is not, else it is
+    pub element-ordered : count_around Element f p place ≡ 0 → count_around DocumentType f p place ≡ 1 → (first : Bool) → first ≡ has_kind DocumentType f ahead → not first ≡ refuses place Element f p n
+    element-ordered h d first e =
+        ap not (e ∙ has DocumentType ahead)
+        ∙ one-side (count_kind DocumentType f ahead) (count_kind DocumentType f (staying place)) (count_kind DocumentType f past_it) d
+        ∙ (rw (has Element ahead, has Element (staying place), has Element past_it, has DocumentType (staying place), has DocumentType past_it, none-of (count_kind Element f ahead) (omega arith), none-of (count_kind Element f (staying place)) (omega arith), none-of (count_kind Element f past_it) (omega arith)) refl)
+        ∙ element-read
+
+    -- where an element is ahead, a doctype is refused, else it is not
+    pub doctype-ordered : count_around DocumentType f p place ≡ 0 → (first : Bool) → first ≡ has_kind Element f ahead → first ≡ refuses place DocumentType f p n
+    doctype-ordered h first e =
+        e
+        ∙ (rw (has DocumentType ahead, has DocumentType (staying place), has DocumentType past_it, none-of (count_kind DocumentType f ahead) (omega arith), none-of (count_kind DocumentType f (staying place)) (omega arith), none-of (count_kind DocumentType f past_it) (omega arith)) refl)
         ∙ doctype-read
 
 module _ {X : Type 0} (f : Forest X) (p n : ℕ) where

@@ -4,6 +4,7 @@ pub mod Placing
 pub mod Following
 pub mod Covering
 pub mod CountedPlaces
+pub mod OrderedPlaces
 pub mod Queuing
 pub mod Leaving
 pub mod PlacedRoots

@@ -55,6 +55,33 @@ impl World {
         ensures whole { IsWhole self.new }
     {
         // the checker covers no variable of this type that is passed by value twice
+        let asked = child;
+        self.make_order_known(parent, node, asked);
+        self.check_and_insert(alloc, parent, node, child)
+    }
+
+    // Inserts a node as [`World::insert_before`] does, by a check that finds the order of the children as it is known.
+    fn check_and_insert(
+        &mut self,
+        alloc: Global,
+        parent: NodeId,
+        node: NodeId,
+        child: Option<NodeId>,
+    ) -> Result<(), Refusal>
+        requires whole { IsWhole self.old }
+        requires parent_held { HasNode self.old.tree.forest parent }
+        requires node_held { HasNode self.old.tree.forest node }
+        requires child_held { ForSome child (λ c. HasNode self.old.tree.forest c) }
+        ensures allowed { OnOk result (check_insert self.old.tree.forest parent node child ≡ None) }
+        ensures inserted { OnOk result (Follows self.old self.new (pre_insert node parent child)) }
+        ensures markers { OnOk result (StandByEdits self.old self.new
+            (pre_insert_edits node parent child)) }
+        ensures refused { IfErr result (λ e. IsRefused e
+            (check_insert self.old.tree.forest parent node child) self.old self.new) }
+        ensures kept { KeepsNodes self.old self.new }
+        ensures whole { IsWhole self.new }
+    {
+        // the checker covers no variable of this type that is passed by value twice
         let given = child;
         if let Err(error) = check_insert(&self.tree, parent, node, given) {
             return Err(Refusal::Dom(error));
@@ -180,6 +207,32 @@ impl World {
     ///
     /// Refuses as [`crate::check_replace`] does. The child is removed first.
     pub fn replace(
+        &mut self,
+        alloc: Global,
+        parent: NodeId,
+        node: NodeId,
+        child: NodeId,
+    ) -> Result<(), Refusal>
+        requires whole { IsWhole self.old }
+        requires parent_held { HasNode self.old.tree.forest parent }
+        requires node_held { HasNode self.old.tree.forest node }
+        requires child_held { HasNode self.old.tree.forest child }
+        ensures allowed { OnOk result (check_replace self.old.tree.forest parent node child
+            ≡ None) }
+        ensures replaced { OnOk result (Follows self.old self.new (replace child node parent)) }
+        ensures markers { OnOk result (StandByEdits self.old self.new
+            (replace_edits child node parent)) }
+        ensures refused { IfErr result (λ e. IsRefused e
+            (check_replace self.old.tree.forest parent node child) self.old self.new) }
+        ensures kept { KeepsNodes self.old self.new }
+        ensures whole { IsWhole self.new }
+    {
+        self.make_order_known(parent, node, Some(child));
+        self.check_and_replace(alloc, parent, node, child)
+    }
+
+    // Replaces a child as [`World::replace`] does, by a check that finds the order of the children as it is known.
+    fn check_and_replace(
         &mut self,
         alloc: Global,
         parent: NodeId,

@@ -6,6 +6,7 @@ mod content;
 mod discarding;
 mod edits;
 mod inserting;
+mod ordering;
 mod putting;
 mod questions;
 mod records;

@@ -200,7 +200,24 @@ fn count_around(tree: &Tree<Content>, document: NodeId, place: Place, kind: Kind
     }
 }
 
-// Returns whether a Document refuses an element at an insertion point, if the counts tell: there is another, or no doctype can follow.
+// Returns whether the one child of a kind is ahead of an insertion point before or in the place of a child, if it is known without a walk.
+fn is_ahead(tree: &Tree<Content>, document: NodeId, place: Place, kind: Kind) -> Option<bool>
+    requires held { HasNode tree.now.forest document }
+    requires under { IsUnder tree.now.forest document place }
+    ensures { IfSome result (λ ahead. ahead ≡ has_kind kind tree.now.forest
+        (ahead_of (child_of place) (children_of tree.now.forest document))) }
+{
+    tree.sound();
+    let child = place.child()?;
+    let count = tree.children_of_kind(document, kind)?;
+    if count != 1 {
+        return None;
+    }
+    let known = tree.known_child(document, kind)?;
+    Some(tree.comes_before(known, child))
+}
+
+// Returns whether a Document refuses an element at an insertion point, if that is known without a walk: there is another, or the one doctype can follow or not.
 fn element_by_count(tree: &Tree<Content>, document: NodeId, place: Place) -> Option<bool>
     requires held { HasNode tree.now.forest document }
     requires under { IsUnder tree.now.forest document place }
@@ -219,10 +236,14 @@ fn element_by_count(tree: &Tree<Content>, document: NodeId, place: Place) -> Opt
     if doctypes == 0 {
         return Some(false);
     }
-    None
+    if doctypes != 1 {
+        return None;
+    }
+    let is_first = is_ahead(tree, document, place, Kind::DocumentType)?;
+    Some(!is_first)
 }
 
-// Returns whether a Document refuses a doctype at an insertion point, if the counts tell: there is another, no element, or each element precedes it.
+// Returns whether a Document refuses a doctype at an insertion point, if that is known without a walk: there is another, no element, or the one element precedes it or not.
 fn doctype_by_count(tree: &Tree<Content>, document: NodeId, place: Place) -> Option<bool>
     requires held { HasNode tree.now.forest document }
     requires under { IsUnder tree.now.forest document place }
@@ -241,7 +262,7 @@ fn doctype_by_count(tree: &Tree<Content>, document: NodeId, place: Place) -> Opt
     if place.child().is_none() {
         return Some(true);
     }
-    None
+    is_ahead(tree, document, place, Kind::Element)
 }
 
 // Returns whether a Document refuses an element at an insertion point, by a walk over its children.

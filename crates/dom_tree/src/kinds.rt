@@ -1,7 +1,7 @@
 //! What kind of node a node is (DOM Standard, "Interface Node").
 
-ghost use Rattle.std.specs.Prelude.{◌≡◌, IfSome};
-ghost use Rattle.dom_model.specs.Forests.Forest.{HasNode, children_of};
+ghost use Rattle.std.specs.Prelude.{◌≡◌, Some, IfSome, true};
+ghost use Rattle.dom_model.specs.Forests.Forest.{HasNode, parent_of, children_of};
 ghost use Rattle.dom_model.specs.Forests.Kinds.{is_character_data};
 ghost use Rattle.dom_model.specs.Forests.Nodes.{is_of_kind, kind_passes};
 ghost use Rattle.dom_model.specs.MutationAlgorithms.Checks.{count_kind};
@@ -34,6 +34,20 @@ impl<X> Tree<X> {
             Kind::DocumentType => Some(tally.doctypes),
             _ => None,
         }
+    }
+
+    /// A child of a node that is of a kind, where one is known without a look at the others: the element or the doctype that came in last under a Document, where it is still there. It takes no memory.
+    pub fn known_child(&self, parent: NodeId, kind: Kind) -> Option<NodeId>
+        requires { HasNode self.now.forest parent }
+        ensures child { IfSome result (λ child. parent_of self.now.forest child ≡ Some parent) }
+        ensures kind { IfSome result (λ child. is_of_kind kind self.now.forest child ≡ true) }
+    {
+        let place = place_of(&self.links, &self.table, parent);
+        let child = self.tallies.latest(self.links.slot(place), kind)?;
+        if self.holds(child) && self.parent(child) == Some(parent) && self.is_of_kind(child, kind) {
+            return Some(child);
+        }
+        None
     }
 
     /// Whether a node has character data.

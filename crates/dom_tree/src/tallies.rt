@@ -4,6 +4,7 @@ ghost use Rattle.std.specs.Prelude.{◌≡◌, ℕ, None, [], option_map};
 ghost use Rattle.dom_model.specs.Forests.Kinds.{is_kind};
 ghost use Rattle.dom_tree.specs.Tallies.{tally_in, tally_but, one, raised, lowered, AreStarted};
 
+use crate::node_id::NodeId;
 use dom_kinds::Kind;
 use dom_links::Slot;
 use indexmap::IndexMap;
@@ -22,10 +23,25 @@ const BARE: Tally = Tally {
     doctypes: 0,
 };
 
+/// The element and the doctype that came in last under a node. Either may have left it since.
+#[derive(Clone, Copy)]
+struct Latest {
+    element: Option<NodeId>,
+    doctype: Option<NodeId>,
+}
+
+const NONE_YET: Latest = Latest {
+    element: None,
+    doctype: None,
+};
+
 /// For each Document what stands among its children.
+///
+/// `latest` has the children that came in last: whoever goes by it has to see where they stand.
 #[derive(Drop)]
 pub(crate) struct Tallies {
     by_slot: IndexMap<usize, Tally>,
+    latest: IndexMap<usize, Latest>,
 }
 
 impl Model for Tallies {
@@ -60,6 +76,15 @@ fn lower(tally: &mut Tally, kind: Kind)
     tally.doctypes = tally.doctypes.saturating_sub(one(Kind::DocumentType, kind));
 }
 
+// A child of a kind has come in.
+fn come_in(latest: &mut Latest, kind: Kind, child: NodeId) {
+    match kind {
+        Kind::Element => latest.element = Some(child),
+        Kind::DocumentType => latest.doctype = Some(child),
+        _ => {}
+    }
+}
+
 impl Tallies {
     /// No counts, and room for none.
     pub(crate) fn new(alloc: Global) -> Tallies
@@ -67,6 +92,7 @@ impl Tallies {
     {
         Tallies {
             by_slot: IndexMap::new(alloc),
+            latest: IndexMap::new(alloc),
         }
     }
 
@@ -83,6 +109,7 @@ impl Tallies {
     {
         if kind == Kind::Document {
             self.by_slot.reserve(1)?;
+            self.latest.reserve(1)?;
         }
         Ok(())
     }
@@ -93,6 +120,7 @@ impl Tallies {
     {
         if kind == Kind::Document {
             let _ = self.by_slot.insert(parent.number(), BARE);
+            let _ = self.latest.insert(parent.number(), NONE_YET);
         }
     }
 
@@ -123,5 +151,25 @@ impl Tallies {
         ensures { (p : ℕ) → tally_in self.new p ≡ tally_but parent None self.old p }
     {
         let _ = self.by_slot.swap_remove(&parent.number());
+        let _ = self.latest.swap_remove(&parent.number());
+    }
+
+    /// Notes a child that comes in under a parent.
+    pub(crate) fn note(&mut self, parent: Slot, kind: Kind, child: NodeId)
+        ensures { self.new ≡ self.old }
+    {
+        if let Some(latest) = self.latest.get_mut(&parent.number()) {
+            come_in(latest, kind, child);
+        }
+    }
+
+    /// The element or the doctype that came in last under a parent, where one did.
+    pub(crate) fn latest(&self, parent: Slot, kind: Kind) -> Option<NodeId> {
+        let latest = self.latest.get(&parent.number())?;
+        match kind {
+            Kind::Element => latest.element,
+            Kind::DocumentType => latest.doctype,
+            _ => None,
+        }
     }
 }

@@ -9,7 +9,7 @@ ghost use Rattle.dom_tree.specs.Slots.{nodes_alone};
 ghost use Rattle.dom_tree.specs.Tallies.{tally_in, tally_but, has_in, tally_put, tally_cut, AreTallied};
 
 use crate::item::Item;
-use crate::nearby;
+use crate::nearby::{self, number_of};
 use crate::tallies::Tallies;
 use dom_kinds::Kind;
 use dom_links::{Place, Store};
@@ -38,7 +38,9 @@ pub(crate) fn tallied_put<X>(
         (slot_of links.now child) p }
 {
     if kind_at(links, parent) == Kind::Document {
-        tallies.raise(links.slot(parent), kind_at(links, child));
+        let kind = kind_at(links, child);
+        tallies.note(links.slot(parent), kind, number_of(links, child));
+        tallies.raise(links.slot(parent), kind);
     }
 }
 

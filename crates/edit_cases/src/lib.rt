@@ -12,6 +12,8 @@ mod contents;
 #[cfg(test)]
 mod copies;
 #[cfg(test)]
+mod documents;
+#[cfg(test)]
 mod editing;
 #[cfg(test)]
 mod facts;

@@ -1,6 +1,6 @@
 -- What the counts around the place tell.
 use Rattle.std.proofs.Common.{◌∙◌, sym, arith}
-use Rattle.dom_edit.proofs.{Placing.listed-once, CountedPlaces.none-given, CountedPlaces.element-there, CountedPlaces.element-alone, CountedPlaces.element-last}
+use Rattle.dom_edit.proofs.{Placing.listed-once, CountedPlaces.none-given, CountedPlaces.element-there, CountedPlaces.element-alone, CountedPlaces.element-last, CountedPlaces.element-ordered}
 use Rattle.dom_edit.proofs.surroundings.element_by_count.Goals as goal
 
 pub returns-then-elements-ne0 : goal.returns-then-elements-ne0
@@ -17,3 +17,9 @@ returns-then-doctypes-eq0 c n =
     let g = c.args.tree.now in
     element-alone g.forest c.args.document c.args.place c.requires.under (λ m e. listed-once g c.sound.ensures c.args.document m e) n
     (omega (arith, c.in_ok-elements.ensures, c.if-elements-ne0.false)) (omega (arith, c.in_ok-doctypes.ensures, c.if-doctypes-eq0.true))
+
+pub returns : goal.returns
+returns c n =
+    let g = c.args.tree.now in
+    element-ordered g.forest c.args.document c.args.place c.requires.under (λ m e. listed-once g c.sound.ensures c.args.document m e) n
+    (omega (arith, c.in_ok-elements.ensures, c.if-elements-ne0.false)) (omega (arith, c.in_ok-doctypes.ensures, c.if-doctypes-ne1.false)) c.in_ok-is_first.is_first c.in_ok-is_first.ensures
