@@ -1,6 +1,6 @@
 #!/usr/bin/env python3
-"""Tests tools/setup, tools/gathered.py, tools/beside.py, tools/progress.py, tools/printed.py, tools/rows.py, tools/commands.py, tools/quoted.py and how many
-threads a proof gets, where nothing is installed, built or proved: apt is a script that notes how it was called."""
+"""Tests tools/setup, tools/gathered.py, tools/beside.py, tools/progress.py, tools/docs.py with its parts, tools/rows.py and the number of threads of a proof.
+Nothing is installed, built or proved: apt is a script that notes how it was called."""
 import glob
 import importlib.machinery
 import importlib.util
@@ -14,6 +14,8 @@ import threading
 import time
 import types
 import unittest
+from contextlib import redirect_stdout
+from unittest import mock
 
 sys.dont_write_bytecode = True
 HERE = os.path.dirname(os.path.realpath(__file__))
@@ -21,12 +23,16 @@ sys.path.insert(0, HERE)
 import beside
 import commands
 import contracts
+import docs
 import gate
 import gathered
+import layers
+import links
 import printed
 import progress
 import quoted
 import start
+import words
 
 APT = '#!/bin/sh\necho "$0 $@" >>{log}\nexit {status}\n'
 
@@ -144,6 +150,54 @@ class Pages(unittest.TestCase):
                 words[it] = len(file.read().split())
         self.assertLessEqual(words["README.md"], 900)
         self.assertLessEqual(sum(words.values()), 27000)
+
+
+    def said(self, *given):
+        """Returns the status of tools/docs.py with these words, and its lines."""
+        out = io.StringIO()
+        with mock.patch.object(sys, "argv", ["docs.py", *given]), redirect_stdout(out):
+            return docs.main(), out.getvalue().splitlines()
+
+    def test_every_part_passes(self):
+        status, lines = self.said("check")
+        self.assertEqual((status, [it.partition(":")[0] for it in lines]), (0, [*docs.PARTS]))
+
+    def test_a_fault_is_reported_and_fails(self):
+        with mock.patch.object(links, "check", lambda: (["docs/costs.md:3: a fault"], "all is there")):
+            self.assertEqual(self.said("check", "links"), (1, ["docs/costs.md:3: a fault", "links: 1 wrong"]))
+
+    def test_only_parts_out_of_date_are_written_unless_named(self):
+        written = []
+        for name, (module, _) in docs.PARTS.items():
+            faults = ["a fault"] if name == "commands" else []
+            for its, found in (("check", lambda faults=faults: (faults, "passes")), ("write", lambda name=name: written.append(name))):
+                if hasattr(module, its):
+                    patched = mock.patch.object(module, its, found)
+                    patched.start()
+                    self.addCleanup(patched.stop)
+        self.assertEqual(self.said("write")[0], 1)
+        self.assertEqual(written, ["commands"])
+        self.assertEqual(self.said("write", "layers", "quoted"), (0, ["layers: passes", "quoted: passes"]))
+        self.assertEqual(written, ["commands", "layers", "quoted"])
+
+    def test_an_unknown_part_is_refused(self):
+        for given, known in ((("check", "costs"), "layers, links"), (("write", "links"), "layers, commands")):
+            with mock.patch.object(sys, "stderr", io.StringIO()) as err, self.assertRaises(SystemExit):
+                self.said(*given)
+            self.assertIn(f"{given[0]} has no part {given[1]}: it knows {known}", err.getvalue())
+
+    def test_a_fault_of_a_page_has_its_line(self):
+        with tempfile.TemporaryDirectory() as top:
+            with open(f"{top}/page.md", "w", encoding="utf-8") as file:
+                file.write("# A\n\n```sh\nwhat is\n```\n\n- One.\n- It shows what is lent, [there](none.md).\n\n" + "word " * 36 + "\n")
+            with mock.patch.object(words, "ROOT", top), mock.patch.object(links, "ROOT", top):
+                found = [*words.faults_of_page("page.md"), *links.wrongs("page.md", set(), set())]
+        self.assertEqual([it.partition(" ")[0] for it in found], ["page.md:8:", "page.md:10:", "page.md:8:"])
+
+    def test_the_picture_of_the_layers_has_each_crate_and_its_words(self):
+        self.assertEqual(layers.check()[0], [])
+        with mock.patch.dict(layers.SAYS, {"dom_c": "other words"}):
+            self.assertIn("it has other words for dom_c than SAYS of tools/layers.py: run python3 tools/docs.py write layers", layers.check()[0][0])
 
 
 class Threads(unittest.TestCase):
