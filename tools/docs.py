@@ -7,6 +7,7 @@ case; then it checks. `run` takes pages by their paths from the top; without any
 import argparse
 import sys
 
+import charts
 import clauses
 import commands
 import layers
@@ -22,6 +23,7 @@ PARTS = {
     "commands": (commands, "docs/commands.json, made from the definitions and docs/commands.md"),
     "clauses": (clauses, "the homes of clauses' words, and the reading order of definitions"),
     "quoted": (quoted, "code and contracts on pages, from the sources"),
+    "charts": (charts, "charts and repeated figures, from the tables of docs/costs.md"),
     "words": (words, "the rules of docs/writing.md"),
 }
 

@@ -21,6 +21,7 @@ sys.dont_write_bytecode = True
 HERE = os.path.dirname(os.path.realpath(__file__))
 sys.path.insert(0, HERE)
 import beside
+import charts
 import commands
 import contracts
 import docs
@@ -198,6 +199,27 @@ class Pages(unittest.TestCase):
         self.assertEqual(layers.check()[0], [])
         with mock.patch.dict(layers.SAYS, {"dom_c": "other words"}):
             self.assertIn("it has other words for dom_c than SAYS of tools/layers.py: run python3 tools/docs.py write layers", layers.check()[0][0])
+
+
+class Charts(unittest.TestCase):
+    PAGE = "# A page\n\n## Lines\n\n| scene | ours | theirs |\n|---|---|---|\n| one & two | 1,200 | 40 |\n| `three` | 7 | 900 |\n\n## Else\n\nOf 83,000 and 2.9.14\n"
+
+    def test_a_bar_for_each_number(self):
+        found = charts.drawn(charts.Chart("a.svg", "A title", "Lines"), self.PAGE)
+        self.assertEqual(charts.table_of(self.PAGE, "Lines"), (["ours", "theirs"], [("one & two", [1200, 40]), ("three", [7, 900])]))
+        self.assertIn('aria-label="A title. one &amp; two: ours 1,200, theirs 40; three: ours 7, theirs 900"', found)
+        widths = {it.partition('"')[0] for it in found.split(' width="')[1:] if "height=\"11\"" in it}
+        self.assertEqual(len(widths), 4)
+        self.assertRaisesRegex(ValueError, "there is no table below 'Words'", charts.table_of, self.PAGE, "Words")
+
+    def test_the_grid_has_at_most_six_lines(self):
+        for most in (10, 99, 2499, 2500, 5171, 838000, 999999, 1000000):
+            self.assertIn(most // charts.step_of(most), range(2, 6), most)
+
+    def test_a_figure_that_the_page_lacks_is_reported(self):
+        readme = "# A page\n\n## Beside others\n\nIt makes 83,000, libxml2 2.9 3,000 ([a page](docs/costs9.md)), 83,000.\n\n## Else 5\n"
+        self.assertEqual(charts.unknown_figures(readme, self.PAGE), ["3,000"])
+        self.assertRaisesRegex(ValueError, "README.md: there are no figures below 'Beside others'", charts.unknown_figures, "# A page\n", self.PAGE)
 
 
 class Threads(unittest.TestCase):
