@@ -13,6 +13,7 @@ import commands
 import layers
 import links
 import printed
+import promises
 import quoted
 import words
 
@@ -23,6 +24,7 @@ PARTS = {
     "commands": (commands, "docs/commands.json, made from the definitions and docs/commands.md"),
     "clauses": (clauses, "the homes of clauses' words, and the reading order of definitions"),
     "quoted": (quoted, "code and contracts on pages, from the sources"),
+    "promises": (promises, "calls and clauses in the tables of docs/proved.md"),
     "charts": (charts, "charts and repeated figures, from the tables of docs/costs.md"),
     "words": (words, "the rules of docs/writing.md"),
 }

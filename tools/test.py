@@ -31,6 +31,7 @@ import layers
 import links
 import printed
 import progress
+import promises
 import quoted
 import start
 import words
@@ -323,6 +324,26 @@ class Quoted(unittest.TestCase):
             self.assertIn("fn Units::slice has other clauses", "\n".join(quoted.wrong_contracts(page, changed, known)))
             self.assertEqual(quoted.with_contracts(changed, known), text)
         self.assertIn("the crate has no fn Units::cut", "\n".join(quoted.wrong_contracts(page, text.replace("fn Units::slice(", "fn Units::cut("), known)))
+
+
+class Promises(unittest.TestCase):
+    """The clauses of docs/proved.md, of which some are changed."""
+
+    CHANGED = (
+        ("`delete_contents`: `left`;", "`delete_contents`: `lefts`;", "delete_contents has no clause lefts"),
+        ("`range_text`: `between`;", "`range_texts`: `between`;", "there is no call or clause range_texts"),
+        ("`run`: `passed`, `writer`", "`run`: `passed`, `labelled`", "run has no clause labelled"),
+        ("each edit: `kept`, `markers`;", "each edit: `kept`, `marked`;", "the crate has no clause marked"),
+    )
+
+    def test_a_changed_clause_is_reported_at_its_line(self):
+        text = promises.text_of_page()
+        self.assertEqual([*promises.faults(text)], [])
+        for old, new, told in self.CHANGED:
+            with self.subTest(new):
+                self.assertEqual(text.count(old), 1)
+                line = text.count("\n", 0, text.index(old)) + 1
+                self.assertEqual([*promises.faults(text.replace(old, new))], [f"docs/proved.md:{line}: {told}"])
 
 
 class Printed(unittest.TestCase):
