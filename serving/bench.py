@@ -212,7 +212,7 @@ def main():
     given = parser.parse_args()
     for it in given.parts or PARTS:
         if it not in PARTS:
-            parser.error(f"no part is called {it}")
+            parser.error(f"there is no part {it}: the parts are {', '.join(PARTS)}")
         PARTS[it](given)
 
 

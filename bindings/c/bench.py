@@ -84,7 +84,7 @@ def main():
     parser.add_argument("--instructions", action="store_true", help="count instructions, by valgrind, in place of nanoseconds")
     given = parser.parse_args()
     if given.count < 100 or given.times < 1:
-        parser.error("a scene has at least 100, and is run at least once")
+        parser.error(f"--count has to be at least 100 and --times at least 1, not {given.count} and {given.times}")
     folder, _ = make(given)
     with tempfile.TemporaryDirectory() as work:
         ours = compiled(given, "bench", work, f"-I{folder}", os.path.join(folder, "libhuckleport.a"))
