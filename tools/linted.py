@@ -22,7 +22,7 @@ SHARE = "release/share"
 MAN = f"{SHARE}/man/man1/domserve.1"
 COMPLETIONS = ("bash-completion/completions/domserve", "zsh/site-functions/_domserve", "fish/vendor_completions.d/domserve.fish")
 # The sources in C, but for the one that is made; .clang-format has their form.
-SOURCES_IN_C = ("bindings/**/*.[ch]", "release/**/*.c", "tools/*.c", "generated/*.c", "examples/*.c")
+SOURCES_IN_C = ("bench/**/*.[ch]", "bindings/**/*.[ch]", "release/**/*.c", "tools/*.c", "generated/*.c", "examples/*.c")
 MADE = "bindings/python/core/calls.h"
 # Debian's packages for node are found by the one; by the other ESLint 9 reads .eslintrc.json too.
 ESLINT = {"NODE_PATH": "/usr/share/nodejs", "ESLINT_USE_FLAT_CONFIG": "false"}
@@ -104,7 +104,7 @@ def shell():
 
 
 def javascript():
-    return said("eslint", "--max-warnings", "0", *files("bindings/**/*.js", "release/**/*.mjs", "referee/**/*.js"), **ESLINT)
+    return said("eslint", "--max-warnings", "0", *files("bench/**/*.js", "bindings/**/*.js", "release/**/*.mjs", "referee/**/*.js"), **ESLINT)
 
 
 def doxygen():

@@ -11,7 +11,9 @@ import subprocess
 import sys
 import tempfile
 
-from make import HERE, make, words_of
+HERE = os.path.dirname(os.path.abspath(__file__))
+sys.path.insert(0, os.path.join(os.path.dirname(os.path.dirname(HERE)), "bindings/c"))
+from make import make, words_of
 
 STRICT = ["-std=c11", "-O2", "-Wall", "-Wextra", "-Werror"]
 
