@@ -343,7 +343,7 @@ class Tenure:
         if is_over and held.alone.memory < self.memory:
             # (a worker with more memory may answer it)
             if len(replies) == 1:
-                raise Unanswered("more memory than this worker may take")
+                raise Unanswered(f"it needs more than the {held.alone.memory} bytes of memory that this worker may take (--memory)")
             del replies[-1]
         if is_over:
             log.warning("document %d: request refused by %s", held.document, replies[-1].decode())

@@ -6,8 +6,7 @@
 #include <stdarg.h>
 #include <string.h>
 
-enum { NODES = 9,
-    ROOM = 1 << 16 };
+enum { NODES = 9, ROOM = 1 << 16 };
 
 struct said {
     size_t length;
@@ -133,8 +132,7 @@ static void read_all(struct said *to, bool stays)
 }
 
 /* The calls that take memory, by number: up to QUESTIONS those that change no node that is there. */
-enum { QUESTIONS = 17,
-    CALLS = 22 };
+enum { QUESTIONS = 17, CALLS = 22 };
 
 /* (the range ends behind the second child first: it may hold no part of an element) */
 static uint8_t surround(void)
