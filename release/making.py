@@ -28,12 +28,12 @@ ONCE = {"the wheel of serving": serving, "the crate": crate, "the package for np
 SUMS, MADE_OF, SBOM = "SHA256SUMS", "MADE-OF", f"{NAME}.spdx.json"
 
 
-def sums(folder):
+def sums(folder, algorithm="sha256"):
     """The sums of all that was made, by name."""
     found = {}
     for name in sorted(os.listdir(folder)):
         with open(os.path.join(folder, name), "rb") as file:
-            found[name] = hashlib.sha256(file.read()).hexdigest()
+            found[name] = hashlib.new(algorithm, file.read()).hexdigest()
     return found
 
 
@@ -65,10 +65,13 @@ def kit():
 
 
 def made_of(said=""):
-    """What a release was made of: its version, commit and kit, the sums that the proofs were noted under, and what the kit said of the proofs."""
+    """What a release was made of: its version, commit and kit, the compiler that assembled the proved code, the sums that the proofs were noted under, and
+    what the kit said of the proofs.
+    """
     commit = said_by("git", "rev-parse", "HEAD") or "unknown"
     changed = " with changes that are not committed" if said_by("git", "status", "--porcelain") else ""
     text = f"version: {VERSION}\ncommit: {commit}{changed}\nkit: {kit()}\nprocessor that made it: {HERE}\n"
+    text += f"compiler: {(said_by('cc', '--version') or 'unknown').splitlines()[0]}\n"
     with contextlib.suppress(OSError):
         text += f"\ngenerated/SUMS, which names the proved code and its sources:\n{assemble.text_of(assemble.SUMS)}"
     return f"{text}\nWhat the kit said of the proofs (rt ci):\n{said}" if said else text
@@ -78,7 +81,10 @@ def close(folder, key, said):
     """Writes what belongs to a release as a whole: what it was made of, its SBOM, its sums, and the signature of these."""
     write(folder, MADE_OF, made_of(said))
     moment = time.strftime("%Y-%m-%dT%H:%M:%SZ", time.gmtime(files.MOMENT))
-    write(folder, SBOM, notices.sbom(NAME, VERSION, moment, kit(), sums(folder)))
+    # (SPDX asks for SHA1 beside any other sum)
+    by_algorithm = {it: sums(folder, it) for it in ("sha1", "sha256")}
+    by_name = {name: {it: its[name] for it, its in by_algorithm.items()} for name in sorted(os.listdir(folder))}
+    write(folder, SBOM, notices.sbom(NAME, VERSION, moment, kit(), by_name))
     write(folder, SUMS, "".join(f"{total}  {name}\n" for name, total in sums(folder).items()))
     if key:
         sign(folder, key)
