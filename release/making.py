@@ -1,9 +1,9 @@
 """Makes the files of a release of what was proved and built: for each processor an archive, packages for Debian and a wheel; a wheel for serving, a crate and
 a package for npm; an archive of references; an SBOM, what the files were made of, and their sums.
 
-Nothing is proved here. The program and the libraries are taken as they are, and for another processor built of generated/; the header is made of the exports,
-and the shared object has to show its calls and no other name. What this machine has no tools for is left out, with a line that says so. The same input gives
-the same bytes on one machine.
+Nothing is proved here. The libraries are taken as they are; the program, and all for another processor, is built of generated/. The header is made of the
+exports, and the shared object has to show its calls and no other name. What this machine has no tools for is left out, with a line that says so. The same input
+gives the same bytes on one machine.
 """
 import argparse
 import contextlib
@@ -95,8 +95,8 @@ def sign(folder, key):
     subprocess.run(["gpg", "--batch", "--yes", "--local-user", key, "--armor", "--detach-sign", os.path.join(folder, SUMS)], check=True)
 
 
-def release(library, to, key=None, said=""):
-    """Makes all files of a release in a folder, which is empty before; returns what was left out, and why."""
+def release(library, to, key=None, said="", without=()):
+    """Makes all files of a release, but for some, in a folder, which is empty before; returns what was left out, and why."""
     left = {}
     for machine in MACHINES.values():
         with tempfile.TemporaryDirectory() as work:
@@ -105,7 +105,7 @@ def release(library, to, key=None, said=""):
             if machine.name == HERE:
                 makers |= {what: (maker, (work, to)) for what, maker in ONCE.items()}
             left |= {f"all for {machine.name}": why} if why else {}
-            left |= {what: why for what, (maker, given) in makers.items() if (why := maker(*given))}
+            left |= {what: why for what, (maker, given) in makers.items() if what not in without and (why := maker(*given))}
     close(to, key, said)
     return left
 

@@ -211,10 +211,10 @@ class Sums(Release):
 
 class Again(Release):
     def test_same_bytes(self):
-        """A second making gives the same bytes; the references, which their tools write, are told apart."""
+        """A second making gives the same bytes. (The references are their tools' own.)"""
         if Release.given:
             self.skipTest("left out, since the release was not made now")
-        release(Release.library, self.folder)
+        release(Release.library, self.folder, without=("the references",))
         sums = [{name: total for name, total in making.sums(it).items() if name not in (*WHOLE, SBOM) and "-references" not in name} for it in (self.made, self.folder)]
         self.assertEqual(*sums)
 
@@ -307,9 +307,10 @@ class Archive(Release):
     @needs("man")
     def test_man_page(self):
         top = self.unpacked(self.file(ARCHIVES))
-        pages = {it: self.run_in("man", "--pager=cat", os.path.join(top, f"share/man/man{it[-1]}", it), MANWIDTH="100") for it in ("domserve.1", "huckleport.3")}
+        due = {"domserve.1": ("ENVIRONMENT", "FILES", "EXIT STATUS", "EXAMPLES"), "huckleport.3": ("RETURN VALUES", "FILES", "EXAMPLES"), "domserve-explain.1": ("EXIT STATUS", "EXAMPLES")}
+        pages = {it: self.run_in("man", "--pager=cat", os.path.join(top, f"share/man/man{it[-1]}", it), MANWIDTH="100") for it in due}
         self.assertIn("How many bytes a line may have, from 1 to 1073741824.", pages["domserve.1"])
-        for name, parts in (("domserve.1", ("ENVIRONMENT", "FILES", "EXIT STATUS", "EXAMPLES")), ("huckleport.3", ("RETURN VALUES", "FILES", "EXAMPLES"))):
+        for name, parts in due.items():
             self.assertLessEqual(set(parts), set(pages[name].splitlines()))
         dates = {re.search(r"\w+ \d+, \d{4}", it.splitlines()[-1])[0] for it in pages.values()}
         self.assertEqual(dates, {time.strftime("%B %d, %Y", time.gmtime(files.MOMENT)).replace(" 0", " ")})
