@@ -118,7 +118,8 @@ def doxygen():
 
 
 def mandoc():
-    return said("mandoc", "-T", "lint", "-W", "style", MAN)
+    """What mandoc says of the pages for man. (Its rules of style ask for installed pages, which the others name.)"""
+    return said("mandoc", "-T", "lint", "-W", "style", MAN) + said("mandoc", "-T", "lint", "-W", "warning", *files(f"{SHARE}/man/*/*"))
 
 
 def units():
@@ -140,7 +141,7 @@ def lacking(tools):
 TESTS = (
     ("the man page has the options", (), man_page),
     ("the completions have the options", (), completions),
-    ("the form of the man page", ("mandoc",), mandoc),
+    ("the form of the man pages", ("mandoc",), mandoc),
     ("the form of sources in C", ("clang-format",), c_form),
     ("the linter of Python", ("ruff", "flake8"), python),
     ("the form of sources in Rust", ("rustfmt",), rust),
