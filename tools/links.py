@@ -20,7 +20,7 @@ WRITTEN = f"{MODEL}/proofs/Dialogues/"
 PAGES = ("*.md", "docs/*.md", "crates/*/*.md")
 # The pages whose plain words are names too.
 PAGES_OF_NAMES = ("docs/commands.md", INDEX, "docs/proved.md", "docs/rules.md")
-SOURCES = (".rt", ".antt", ".py", ".sh", ".edit", ".c", ".h", ".rs", ".toml", ".js", ".ts", ".json")
+SOURCES = (".sql", ".rt", ".antt", ".py", ".sh", ".edit", ".c", ".h", ".rs", ".toml", ".js", ".ts", ".json")
 ENDINGS = r"\.(?:rt|antt|py|sh|md|svg|txt|edit|c|h|rs|toml|in|out|opts|js|ts|json)"
 MADE = re.compile(r"(\A|/)(out|build)(/|\Z)")
 ANY_NAME = re.compile(r"(\b[A-Z]{2,}\b|\*)")
