@@ -363,7 +363,9 @@ class Kept(Run):
         with open(os.path.join(self.folder, "report.html"), encoding="utf-8") as file:
             page = file.read()
         self.assertLess(page.index("<h3>insertBefore"), page.index("<h3>splitText"))
-        self.assertIn("this core says", page[page.index("<h3>splitText") :])
+        fault, ours = page[page.index("<h3>insertBefore") :].split("<h3>splitText")
+        self.assertEqual([("as it is due" in it, "the standard says" in it, "this core says" in it) for it in (fault, ours)], [(True, True, False), (False, False, True)])
+        self.assertNotIn("is due", ours)
 
     def test_beside_known(self):
         """What differs beside a known difference is told, and the known one stays known."""

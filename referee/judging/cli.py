@@ -199,7 +199,7 @@ def shrink(given):
         print(line(command))
     entry = entry_of_case(read_known(given.known), player.name, judge, case)
     told = f"known: {entry['name']} ({WHY[entry['why']]})" if entry else "new"
-    print(f"due  {line(case.replies[-1])}\ntold {line(case.told)}\n{told if case.again else 'it did not come again when the lines were played anew'}", file=sys.stderr)
+    print(f"core   {line(case.replies[-1])}\nplayer {line(case.told)}\n{told if case.again else 'it did not come again when the lines were played anew'}", file=sys.stderr)
     return DIFFERS
 
 

@@ -12,7 +12,7 @@ def junit_of(cases, told):
     xml.SubElement(run, "system-out").text = f"{counted(told['streams'], 'stream')}, {counted(told['lines'], 'line')}: {told['ended']}"
     for case in cases:
         test = xml.SubElement(suite, "testcase", classname=f"referee.{told['player']}", name=title(case))
-        shown = "\n".join(map(line, case.commands)) + f"\ndue  {line(case.replies[-1])}\ntold {line(case.told)}"
+        shown = "\n".join(map(line, case.commands)) + f"\ncore   {line(case.replies[-1])}\nplayer {line(case.told)}"
         if case.known:
             xml.SubElement(test, "skipped", message=f"known: {case.known}")
         else:

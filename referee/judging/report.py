@@ -33,7 +33,7 @@ def line(value):
 
 def title(case):
     key = Key(**case.key)
-    forms = "" if key.due == key.told == "ok" else f" ({key.due} is due, {key.told} is told)"
+    forms = "" if key.due == key.told == "ok" else f" (the core replies {key.due}, the player {key.told})"
     return f"{key.cause}, shown by {key.shows}{forms}" if key.cause != key.shows else f"{key.cause}{forms}"
 
 
@@ -50,8 +50,9 @@ def rows_of(case):
     return "".join(found) + "</table>"
 
 
-def pictures_of(case):
-    captions = {"before": "before the command", "due": "after it, as it is due", "told": "after it, as the player tells it"}
+def pictures_of(case, why):
+    due = "as it is due" if why == "fault" else "in this core"
+    captions = {"before": "before the command", "due": f"after it, {due}", "told": "after it, in the player"}
     states = states_of(case.moments, case.place)
     found = [f"<figure>{picture_of(states[name])}<figcaption>{words}</figcaption></figure>" for name, words in captions.items() if any(states[name].values())]
     return "<div>" + "".join(found) + "</div>"
@@ -72,7 +73,7 @@ def code_of(case, why, opened, player):
 def others_of(cases):
     if not cases:
         return ""
-    listed = "".join(f"<pre>{escape(chr(10).join(map(line, it.commands)))}\n{escape(line(it.replies[-1]))} is due, told is {escape(line(it.told))}</pre>" for it in cases)
+    listed = "".join(f"<pre>{escape(chr(10).join(map(line, it.commands)))}\nthe core replies {escape(line(it.replies[-1]))}, the player {escape(line(it.told))}</pre>" for it in cases)
     return f"<details><summary>{counted(len(cases), 'other form')}</summary>{listed}</details>"
 
 
@@ -81,8 +82,9 @@ def section(name, cases, entry, told):
     first, *others = sorted(cases, key=lambda it: (len(it.commands), len(it.name())))
     again = "" if all(it.again for it in cases) else '<p class="new">It did not come again when the same stream was played anew.</p>'
     parts = [f'<h3>{escape(name)}: {counted(streams_of(cases, told), "stream")}</h3>', f"<p>{escape(entry['reason'])}</p>" if entry else "", again]
-    parts.append(code_of(first, entry["why"] if entry else NEW, told.get("opened"), told.get("player", "")))
-    parts.append(pictures_of(first))
+    why = entry["why"] if entry else NEW
+    parts.append(code_of(first, why, told.get("opened"), told.get("player", "")))
+    parts.append(pictures_of(first, why))
     parts.append(f"<details><summary>{counted(len(first.commands), 'command')} and both replies</summary>{rows_of(first)}</details>{others_of(others)}")
     return "".join(parts)
 
