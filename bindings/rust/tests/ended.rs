@@ -63,16 +63,17 @@ fn built(session: &mut Session) -> Result<(Node, Node), Exception> {
 fn read(session: &mut Session, root: Node, text: Node) -> Result<String, Exception> {
     let mut to = html::serialize(session, Node::DOCUMENT)? + &html::serialize_children(session, root)? + &html::serialize(session, text)?;
     to += &xml::serialize(session, Node::DOCUMENT)?;
-    to += &format!(
-        "{:?} {:?} {:?}",
-        session.links(root)?,
-        session.data(text)?.len(),
-        session.get_attribute(root, "lang")?.map(String::from_utf16_lossy)
-    );
-    to += &format!("{:?} {}", session.get_attribute(root, "none")?.is_none(), session.has_attribute(root, "title")?);
-    to += &format!("{:?}", session.node(root)?);
-    to += &format!("{:?}", session.node(text)?);
-    to += &format!("{:?} {}", session.root(text)?, session.index(root)?);
+    let language = session.get_attribute(root, "lang")?.map(String::from_utf16_lossy);
+    let has_none = session.get_attribute(root, "none")?.is_none();
+    for it in [
+        format!("{:?} {:?} {language:?}", session.links(root)?, session.data(text)?.len()),
+        format!("{has_none:?} {}", session.has_attribute(root, "title")?),
+        format!("{:?}", session.node(root)?),
+        format!("{:?}", session.node(text)?),
+        format!("{:?} {}", session.root(text)?, session.index(root)?),
+    ] {
+        to += &it;
+    }
     Ok(to)
 }
 

@@ -36,7 +36,7 @@ impl Dialogue {
 
     /// A session with the limits of the dialogue.
     pub fn open(&self) -> Session {
-        let numbers = self.limit("--numbers").unwrap_or(u32::MAX.into());
+        let numbers = self.limit("--numbers").unwrap_or_else(|| u32::MAX.into());
         let line = self.limit("--line").unwrap_or(1 << 20);
         Session::with_limits(numbers.try_into().unwrap(), line.try_into().unwrap()).expect("there is memory")
     }
