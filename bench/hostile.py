@@ -5,6 +5,8 @@ A word leaves only the scenes whose name has it. What makes a scene is not count
 where twice the size takes more than 2.3 times as much: twice, and what a logarithm or the pages of a table add. --size takes larger ones: the sizes
 below are those of the gate, which are small.
 """
+import concurrent.futures
+import os
 import shutil
 import sys
 import tempfile
@@ -232,6 +234,18 @@ def takes_size(parser):
     parser.add_argument("--size", type=int, default=1, metavar="N", help="so many times the sizes of the gate (1)")
 
 
+def measured(scene, given, empty):
+    """Returns the line of a scene at three sizes, and whether it takes too much at twice the size."""
+    name, lines_of, least = scene
+    sizes = [given.size * least * times for times in (1, 2, 4)]
+    with tempfile.TemporaryDirectory() as work:
+        counts = [instructions(given.program, making, lines, work) - len(lines) * empty for making, lines, *_ in map(lines_of, sizes)]
+    ratios = [late / max(early, 1) for early, late in zip(counts, counts[1:])]
+    is_over = max(ratios) > MOST
+    told = ", ".join(f"{size:,}: {count:,.0f}" for size, count in zip(sizes, counts))
+    return f"{name}: {told}; {ratios[0]:.2f} and {ratios[1]:.2f} times{': TOO MUCH' if is_over else ''}", is_over
+
+
 def main():
     given, over = words_of(__doc__, takes_size), 0
     if not shutil.which("valgrind"):
@@ -239,15 +253,10 @@ def main():
         return
     with tempfile.TemporaryDirectory() as work:
         empty = empty_line(given.program, work)
-        for name, scene, least in SCENES:
-            if not all(word in name for word in given.words):
-                continue
-            sizes = [given.size * least * times for times in (1, 2, 4)]
-            counts = [instructions(given.program, making, lines, work) - len(lines) * empty for making, lines, *_ in map(scene, sizes)]
-            ratios = [late / max(early, 1) for early, late in zip(counts, counts[1:])]
-            is_over = max(ratios) > MOST
-            told = ", ".join(f"{size:,}: {count:,.0f}" for size, count in zip(sizes, counts))
-            print(f"{name}: {told}; {ratios[0]:.2f} and {ratios[1]:.2f} times{': TOO MUCH' if is_over else ''}", flush=True)
+    chosen = [it for it in SCENES if all(word in it[0] for word in given.words)]
+    with concurrent.futures.ThreadPoolExecutor(max(1, (os.cpu_count() or 1) // 2)) as pool:
+        for told, is_over in pool.map(lambda it: measured(it, given, empty), chosen):
+            print(told, flush=True)
             over += is_over
     print(f"{over} scenes take more than {MOST} times as much at twice the size")
     sys.exit(over > 0)
