@@ -71,7 +71,8 @@ impl Editor {
     fn tell(&mut self, cursors: &[Range]) -> Result<String> {
         let mut told = String::from_utf16_lossy(self.session.data(self.text)?);
         for it in cursors {
-            told += &format!(" [{}]", String::from_utf16_lossy(self.session.range_text(*it)?));
+            let word = String::from_utf16_lossy(self.session.range_text(*it)?);
+            told.extend([" [", &word, "]"]);
         }
         Ok(told)
     }
