@@ -1,6 +1,6 @@
 /** CharacterData, Text, Comment and ProcessingInstruction. */
 import { check, COMMENT, INSTRUCTION, lent, native, out, TEXT } from "./core.js";
-import { childNode, createComment, createText, dataChanged, dataOf, hasData, namePart, nextOf, parentOf, previousOf, setData, siblings } from "./nodes.js";
+import { childNode, createComment, createText, dataChanged, dataOf, hasData, namePart, nextOf, parentOf, previousOf, quickText, setData, siblings } from "./nodes.js";
 import { known } from "./webidl.js";
 import { arrived, documentOf, isNode, kindOf, numberOf, sessionOf, wrapChild, wrapMade } from "./wrappers.js";
 
@@ -30,7 +30,7 @@ export const CharacterData = known({
   parent: "Node",
   is: (it) => isNode(it) && hasData(it),
   attributes: {
-    data: { type: "DOMString or empty", get: dataOf, set: setData },
+    data: { type: "DOMString or empty", get: dataOf, quick: quickText, set: setData },
     length,
     ...siblings,
   },

@@ -91,6 +91,9 @@ export const setAttributeMarked = (element, core, text) => setNamed(element, att
 /** Sets an attribute by its qualified name. */
 export const setAttribute = (element, name, text) => setNamed(element, byQualified(element, sought(element, name)), text);
 
+/** Sets an attribute by its qualified name in small letters. */
+export const setPlain = (element, name, text) => setNamed(element, byQualified(element, name), text);
+
 function setAttributeNS(element, namespace, qualified, text) {
   const session = sessionOf(element);
   const name = extractedAttribute(session, namespace, qualified);
@@ -126,7 +129,7 @@ function toggleAttribute(element, name, force) {
 const reflected = (name) => ({
   type: "DOMString",
   get: (element) => valueKept(itsOf(element), name) ?? "",
-  set: (element, text) => setNamed(element, byQualified(element, name), text),
+  set: (element, text) => setPlain(element, name, text),
 });
 
 /** All attributes, with their names and values, in their order. */

@@ -32,6 +32,7 @@ import {
   rootOf,
   sessionOf,
   settle,
+  stateOf,
   wrapBare,
   wrapDocument,
   wrapMade,
@@ -532,6 +533,66 @@ function inspected() {
   }
 }
 
+// ---- Getters that are called most. Each has its own code, which an engine puts where it is called.
+
+const isNow = (its) => its !== null && its.stamp === its.session.links;
+
+const quickFirst = (general) => ({
+  operation() {
+    const its = stateOf(this);
+    const found = isNow(its) ? its.first : undefined;
+    return found === undefined ? general.call(this) : found && found.object;
+  },
+});
+
+const quickLast = (general) => ({
+  operation() {
+    const its = stateOf(this);
+    const found = isNow(its) ? its.last : undefined;
+    return found === undefined ? general.call(this) : found && found.object;
+  },
+});
+
+const quickNext = (general) => ({
+  operation() {
+    const its = stateOf(this);
+    const found = isNow(its) ? its.next : undefined;
+    return found === undefined ? general.call(this) : found && found.object;
+  },
+});
+
+const quickPrevious = (general) => ({
+  operation() {
+    const its = stateOf(this);
+    const found = isNow(its) ? its.previous : undefined;
+    return found === undefined ? general.call(this) : found && found.object;
+  },
+});
+
+const quickParent = (general) => ({
+  operation() {
+    const its = stateOf(this);
+    if (its === null) return general.call(this);
+    const found = its.parent();
+    return found && found.object;
+  },
+});
+
+const quickType = (general) => ({
+  operation() {
+    const its = stateOf(this);
+    return its === null ? general.call(this) : its.kind;
+  },
+});
+
+/** The value of a Text whose data is kept. */
+export const quickText = (general) => ({
+  operation() {
+    const its = stateOf(this);
+    return isNow(its) && its.kind === TEXT && its.values !== null ? its.values : general.call(this);
+  },
+});
+
 export const Node = known({
   name: "Node",
   is: isNode,
@@ -556,24 +617,25 @@ export const Node = known({
     DOCUMENT_POSITION_IMPLEMENTATION_SPECIFIC: 32,
   },
   attributes: {
-    nodeType: kindOf,
+    nodeType: { read: (its) => its.kind, quick: quickType },
     nodeName,
     baseURI: (node) => isOfDocument(node).url,
     isConnected: (node) => kindOf(rootOf(node)) === DOCUMENT,
     ownerDocument: (node) => (kindOf(node) === DOCUMENT ? null : documentOf(node)),
-    parentNode: { read: (its) => objectOf(its.parent()) },
+    parentNode: { read: (its) => objectOf(its.parent()), quick: quickParent },
     parentElement: (node) => {
       const parent = parentOf(node);
       return parent && kindOf(parent) === ELEMENT ? parent : null;
     },
     childNodes,
-    firstChild: { read: (its) => objectOf(its.firstChild()) },
-    lastChild: { read: (its) => objectOf(its.lastChild()) },
-    previousSibling: { read: (its) => objectOf(its.previousSibling()) },
-    nextSibling: { read: (its) => objectOf(its.nextSibling()) },
+    firstChild: { read: (its) => objectOf(its.firstChild()), quick: quickFirst },
+    lastChild: { read: (its) => objectOf(its.lastChild()), quick: quickLast },
+    previousSibling: { read: (its) => objectOf(its.previousSibling()), quick: quickPrevious },
+    nextSibling: { read: (its) => objectOf(its.nextSibling()), quick: quickNext },
     nodeValue: {
       type: "DOMString?",
       read: (its) => (isOfData(its.kind) ? textOf(its) : null),
+      quick: quickText,
       set: (node, text) => void (hasData(node) && setData(node, text ?? "")),
     },
     textContent: { type: "DOMString?", get: textContent, set: setTextContent },

@@ -225,7 +225,7 @@ export const AbstractRange = known({
 });
 
 // The members that a static range is made of, each of them required, in the order in which they are read.
-convertible("StaticRangeInit", dictionary({ endContainer: "Node", endOffset: "unsigned long", startContainer: "Node", startOffset: "unsigned long" }));
+convertible("StaticRangeInit", dictionary({ endContainer: "container Node", endOffset: "unsigned long", startContainer: "container Node", startOffset: "unsigned long" }));
 
 export const StaticRange = known({
   name: "StaticRange",

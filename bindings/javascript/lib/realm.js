@@ -51,10 +51,10 @@ const KINDS = {
 
 export class Realm {
   interfaces = {};
-  /** The classes that make objects: of each interface by its name, and of nodes by their kinds. */
+  /** What makes objects: of each interface by its name, and of nodes by their kinds. */
   makers = {};
   kinds = [];
-  /** Which of these classes makes an element of a name (null: the one of its kind). */
+  /** Which of these makes an element of a name (null: the one of its kind). */
   elementMaker = null;
   #document = null;
 

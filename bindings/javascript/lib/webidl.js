@@ -3,8 +3,9 @@
  *
  * An interface is an object with `name`, `parent`, `is` (its brand), and `constants`, `attributes`, `operations`, `construct`, `hidden` (names that a `with`
  * does not see). An attribute is a getter or `{ type, get, set }`, with `read` in place of `get` if the state of a node says it: then the interface is Node,
- * or its `fits` says by the state of a node whether the node has it. An operation is a list of its arguments' types and a function of the object and the
- * arguments. The types are those of Web IDL in its words; `= value` gives what stands for an absent one, and `...` takes all that come.
+ * or its `fits` says by the state of a node whether the node has it. `quick` makes a getter that returns a cached value, of the getter to call without one and
+ * of `fits`. An operation is a list of its arguments' types and a function of the object and the arguments. The types are those of Web IDL in its words;
+ * `= value` gives what stands for an absent one, and `...` takes all that come.
  */
 import { native, Refusal } from "./core.js";
 import { stateOf } from "./wrappers.js";
@@ -87,6 +88,7 @@ export function dictionary(members) {
 
 const HIERARCHY_REQUEST_ERROR = 3;
 const NOT_FOUND_ERROR = 8;
+const INVALID_NODE_TYPE_ERROR = 24;
 let isOtherNode = () => false;
 let standInOf = null;
 
@@ -110,6 +112,7 @@ const NODES = {
   "Node?": (value) => nodeOf(value, orNull),
   "Node or other": (value) => (isOtherNode(value) ? standInOf(value) : nodeOf(value, noNode)),
   "(Node or DOMString)": (value) => nodeOf(value, PLAIN.DOMString),
+  "container Node": (value) => nodeOf(value, noNode, INVALID_NODE_TYPE_ERROR),
   // (a node that has to be a child: any other is not found)
   "child Node": (value) => nodeOf(value, noNode, NOT_FOUND_ERROR),
   "child Node?": (value) => nodeOf(value, orNull, NOT_FOUND_ERROR),
@@ -255,6 +258,9 @@ const fitting = (realm, fits, read) => (its) => {
   return read(its);
 };
 
+/** A getter with code of its own, which an engine compiles for itself: it reads what an object knows, and calls the general one otherwise. */
+const quickened = (quick, general, fits, name) => named(quick(general, fits).operation, `get ${name}`, 0);
+
 function setter(realm, test, type, set, name) {
   return named(FORMS[1](realm, test, set, 1, [argument(type)]).operation, `set ${name}`, 1);
 }
@@ -269,9 +275,10 @@ function addConstants(table, made) {
 
 function addAttributes(realm, table, prototype) {
   for (const [name, its] of Object.entries(table.attributes ?? {})) {
-    const { get, read, set, type } = typeof its === "function" ? { get: its } : its;
+    const { get, read, quick, set, type } = typeof its === "function" ? { get: its } : its;
+    const general = read ? reader(realm, table.fits ? fitting(realm, table.fits, read) : read, name) : getter(realm, table.is, get, name);
     Object.defineProperty(prototype, name, {
-      get: read ? reader(realm, table.fits ? fitting(realm, table.fits, read) : read, name) : getter(realm, table.is, get, name),
+      get: quick ? quickened(quick, general, table.fits, name) : general,
       set: set && setter(realm, table.is, type, set, name),
       enumerable: true,
       configurable: true,
@@ -322,7 +329,7 @@ export function makeInterface(realm, table, Base) {
       super(its, object);
     }
   };
-  realm.makers[table.name] = Maker;
+  realm.makers[table.name] = Base.makerOf(Maker);
   Object.defineProperty(made, "prototype", { value: Maker.prototype, writable: false });
   Object.defineProperty(Maker.prototype, "constructor", { value: made, writable: true, configurable: true });
   const parent = table.parent ? realm.interfaces[table.parent] : null;

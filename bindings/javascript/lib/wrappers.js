@@ -66,6 +66,9 @@ Session.forgetRecent = () => {
 
 const mayHaveChildren = (kind) => kind === ELEMENT || kind === DOCUMENT || kind === FRAGMENT;
 
+/** What is known of the first and the last child without asking. */
+const endsOf = (kind) => (mayHaveChildren(kind) ? undefined : null);
+
 /** What a node's object knows. Other nodes are here by what theirs know. */
 class NodeIs {
   constructor(session, number, kind, realm) {
@@ -79,10 +82,10 @@ class NodeIs {
     this.object = null;
     // The links to what stands beside it, and the count of the session at which they hold: none is known yet.
     this.stamp = session.links;
-    this.first = undefined;
+    this.first = endsOf(kind);
     this.next = undefined;
     this.previous = undefined;
-    this.last = undefined;
+    this.last = this.first;
     // The parent, or the Document of a root.
     this.above = null;
     // Whether it is a child, whether the session finds it by its number, and whether it holds it until the program waits: a bit each.
@@ -166,14 +169,17 @@ class NodeIs {
     return made;
   }
 
-  /** The child of a number, of which the rest is known as well. */
+  /** The child of a number, of which the rest is known as well; its links are those of now. */
   adopted(number, kind, name, count) {
     const { session } = this;
     const found = session.marks.has(number) ? this.child(number) : undefined;
-    if (found !== undefined) return found;
+    if (found !== undefined) {
+      found.fresh();
+      return found;
+    }
     const made = make(session, number, kind, this.realm, kind === ELEMENT ? elementByNumber(session, name) : null);
     made.enter(this);
-    if (count === 0 && mayHaveChildren(kind)) made.bare();
+    if (count === 0 && mayHaveChildren(kind)) made.first = made.last = null;
     return made;
   }
 
@@ -195,7 +201,8 @@ class NodeIs {
     const { links } = this.session;
     if (this.stamp === links) return;
     this.stamp = links;
-    this.first = this.last = this.next = this.previous = undefined;
+    this.first = this.last = endsOf(this.kind);
+    this.next = this.previous = undefined;
     if (this.kind !== ELEMENT) this.values = null;
   }
 
@@ -452,25 +459,33 @@ function readAhead(its, parent, number) {
   return linked(parent, out[0] >>> 2, out[1], out[2] === 1);
 }
 
-const ROW = 5;
+/** The columns of a row: a node's number, its kind, how deep it is, the number of its name, and how many children it has. */
+const [NUMBER, KIND, DEPTH, NAME, COUNT, ROW] = [0, 1, 2, 3, 4, 5];
 
-/** Makes objects of rows (number, kind, depth, name, count of children), and links them; the first is answered. */
+/** Makes objects of rows in tree order, and links them; the first is answered. */
 function linked(parent, from, count, isWhole) {
+  parent.fresh();
   let last = null;
   let level = -1;
   for (let at = from; at < from + count; at += ROW) {
-    const depth = words[at + 2];
-    last = up(last, level, depth);
+    const depth = words[at + DEPTH];
+    if (depth <= level) last = up(last, level, depth);
     const above = depth > level ? (last ?? parent) : last.above;
-    const its = above.adopted(words[at], words[at + 1], words[at + 3], words[at + 4]);
-    if (depth <= level) last.link(its);
-    else if (depth > 0) its.lead();
+    const its = above.adopted(words[at + NUMBER], words[at + KIND], words[at + NAME], words[at + COUNT]);
+    // (all links are those of now)
+    if (depth <= level) {
+      last.next = its;
+      its.previous = last;
+    } else if (depth > 0) {
+      above.first = its;
+      its.previous = null;
+    }
     last = its;
     level = depth;
   }
   frontier = last;
-  const first = parent.child(words[from]);
-  if (isWhole) up(last, level, 0).trail();
+  const first = parent.child(words[from + NUMBER]);
+  if (isWhole) up(last, level, -1);
   return first;
 }
 
@@ -478,7 +493,8 @@ function linked(parent, from, count, isWhole) {
 function up(its, level, depth) {
   let it = its;
   for (let at = level; at > depth; at--) {
-    it.trail();
+    it.next = null;
+    it.above.last = it;
     it = it.above;
   }
   return it;
@@ -504,10 +520,28 @@ export class Wrapper extends Given {
     its.object = this;
   }
 
+  /** What makes objects of an interface, whose class stands between this one and its objects. */
+  static makerOf(Between) {
+    return new Maker(Between, this === Wrapper);
+  }
+
   static {
     isNode = (it) => typeof it === "object" && it !== null && #its in it;
     itsOf = (node) => node.#its;
     stateOf = (it) => (typeof it === "object" && it !== null && #its in it ? it.#its : null);
+  }
+}
+
+/** What makes objects of an interface: bare ones of its prototype, which an engine makes faster than those of a class with classes above it. */
+class Maker {
+  constructor(Between, isBare) {
+    this.Between = Between;
+    this.Bare = isBare ? function () {} : null;
+    if (isBare) this.Bare.prototype = Between.prototype;
+  }
+
+  make(its) {
+    return this.Bare === null ? new this.Between(its) : new Wrapper(its, new this.Bare());
   }
 }
 
@@ -569,7 +603,7 @@ function nameAsked(session, number) {
   return elementByNumber(session, out[0]);
 }
 
-/** The class of a realm that makes a node's object: a realm may tell elements apart by their names. */
+/** What makes a node's object in a realm, which may tell elements apart by their names. */
 function makerOf(session, number, kind, realm, name) {
   if (name !== null && realm.elementMaker) return realm.elementMaker(name);
   return kind === DOCUMENT && documentIs(session, number).isXMLDocument ? realm.makers.XMLDocument : realm.kinds[kind];
@@ -578,10 +612,10 @@ function makerOf(session, number, kind, realm, name) {
 /** A new wrapper of a node; what it knows is answered. */
 function make(session, number, kind, realm, name = null) {
   const known = name === null && kind === ELEMENT && realm.elementMaker ? nameAsked(session, number) : name;
-  const Maker = makerOf(session, number, kind, realm, known);
+  const maker = makerOf(session, number, kind, realm, known);
   const its = new NodeIs(session, number, kind, realm);
   its.name = known;
-  new Maker(its);
+  maker.make(its);
   return its;
 }
 
@@ -766,6 +800,10 @@ export class Thing {
 
   constructor(its) {
     this.#its = its;
+  }
+
+  static makerOf(Between) {
+    return Between;
   }
 
   static {

@@ -279,6 +279,9 @@ const PRECEDING = 2;
 const CONTAINS = 8;
 const CONTAINED = 16 | 4;
 const CONTAINING = CONTAINS | PRECEDING;
+const WITHIN = 8 | 16;
+/** Two attributes of one element, whose order the implementation says. */
+const [AHEAD, BEHIND] = [32 | 4, 32 | 2];
 
 /** Where an Attr is, seen from a node: its element stands for it, and holds it. */
 function positionFrom(node, attr) {
@@ -292,9 +295,19 @@ function positionFrom(node, attr) {
 function positionOf(attr, other) {
   const { element } = attrOf(attr);
   if (attr === other) return 0;
-  if (element === null || !isNode(other)) return DISCONNECTED;
+  if (isAttr(other)) return positionOfAttr(attr, other);
+  if (element === null) return DISCONNECTED;
   const position = element === other ? CONTAINING : comparePosition(element, other);
   return (position & 16) === 0 ? position : 4;
+}
+
+/** The same of another Attr: those of an element are in their order, and none is within another's element. */
+function positionOfAttr(attr, other) {
+  const [{ element, name }, { element: its, name: itsName }] = [attrOf(attr), attrOf(other)];
+  if (element === null || its === null) return DISCONNECTED;
+  if (element !== its) return comparePosition(element, its) & ~WITHIN;
+  const keys = attributeNames(element).map(keyOf);
+  return keys.indexOf(keyOf(name)) < keys.indexOf(keyOf(itsName)) ? AHEAD : BEHIND;
 }
 
 /** An Attr says of itself what a node of the core is asked. */
@@ -320,17 +333,17 @@ const asNode = {
     hasChildNodes: [[], () => false],
     normalize: [[], () => undefined],
     cloneNode: [["boolean = false"], copy],
-    isEqualNode: [["any"], isEqual],
-    isSameNode: [["any"], isSame],
-    contains: [["any"], isSame],
-    compareDocumentPosition: [["any"], positionOf],
+    isEqualNode: [["Node or Attr?"], isEqual],
+    isSameNode: [["Node or Attr?"], isSame],
+    contains: [["Node or Attr?"], isSame],
+    compareDocumentPosition: [["Node or Attr"], positionOf],
     lookupPrefix: [["DOMString?"], (attr, namespace) => attrOf(attr).element?.lookupPrefix(namespace) ?? null],
     lookupNamespaceURI: [["DOMString?"], (attr, prefix) => attrOf(attr).element?.lookupNamespaceURI(prefix) ?? null],
     isDefaultNamespace: [["DOMString?"], (attr, namespace) => attrOf(attr).element?.isDefaultNamespace(namespace) ?? namespace === null],
-    insertBefore: [["any", "any"], childless],
-    appendChild: [["any"], childless],
-    replaceChild: [["any", "any"], childless],
-    removeChild: [["any"], () => refuse("NotFoundError", "an attribute has no children")],
+    insertBefore: [["Node or Attr", "Node or Attr?"], childless],
+    appendChild: [["Node or Attr"], childless],
+    replaceChild: [["Node or Attr", "Node or Attr"], childless],
+    removeChild: [["Node or Attr"], () => refuse("NotFoundError", "an attribute has no children")],
   },
 };
 

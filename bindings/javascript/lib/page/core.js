@@ -13,6 +13,7 @@ export {
   getElementsByTagNameNS as elementsOfName,
   isElement,
   names as attributeNames,
+  setPlain,
 } from "../elements.js";
 export { DocumentFragment, Document, newDocument, xmlIs } from "../documents.js";
 export { after } from "../following.js";
@@ -23,7 +24,7 @@ export { onlyBelow } from "../ids.js";
 export { htmlCollection, numbersIn, stillNodeList } from "../lists.js";
 export { serializeInner } from "../serializing.js";
 export { addMembers, convertible, converted, known, makeInterface, otherNodes, refuseOther, refuseType } from "../webidl.js";
-export { isNode, isThing, itsOf, keptOf, kindOf, makeThing, numberOf, realmOf, rootOf, sessionOf, Thing, thingOf, wrap, Wrapper } from "../wrappers.js";
+export { isNode, isThing, itsOf, keptOf, kindOf, makeThing, numberOf, realmOf, rootOf, sessionOf, stateOf, Thing, thingOf, wrap, Wrapper } from "../wrappers.js";
 
 /** The standard's codes of the exceptions that the page throws. */
 const CODES = {

@@ -9,6 +9,7 @@ import {
   emptyContents,
   HTML,
   isElement,
+  isNode,
   isOfKind,
   known,
   makeThing,
@@ -176,5 +177,5 @@ export const XMLSerializer = known({
   name: "XMLSerializer",
   is: (it) => thingOf(it, SerializerIs) !== undefined,
   construct: [[], (realm) => makeThing(realm, "XMLSerializer", new SerializerIs())],
-  operations: { serializeToString: [["Node"], (serializer, node) => serializeXML(node)] },
+  operations: { serializeToString: [["Node or Attr"], (serializer, node) => (isNode(node) ? serializeXML(node) : "")] },
 });

@@ -1,32 +1,32 @@
 /** The `style` of elements, by cssstyle: a view of the attribute. There are no style sheets. */
-import { Element, HTML, itsOf, keptOf, nameOf, wanted } from "./core.js";
+import { Element, HTML, itsOf, keptOf, nameOf, setPlain, stateOf, wanted } from "./core.js";
 
-const [, setAttribute] = Element.operations.setAttribute;
 const [, hasAttribute] = Element.operations.hasAttribute;
 
 /** The element whose attribute is being written by its declaration, or read into it, or null: neither then follows the other. */
 let followed = null;
 
-function exclusively(element, does) {
+function exclusively(element, does, given) {
   if (followed === element) return;
   const before = followed;
   followed = element;
   try {
-    does();
+    does(element, given);
   } finally {
     followed = before;
   }
 }
 
+const readNow = (element, declaration) => void (declaration.cssText = element.getAttribute("style") ?? "");
+const writeNow = (element, text) => setPlain(element, "style", text);
+
 /** Has a declaration say what the attribute says. */
-function read(element, declaration) {
-  exclusively(element, () => void (declaration.cssText = element.getAttribute("style") ?? ""));
-}
+const read = (element, declaration) => exclusively(element, readNow, declaration);
 
 /** A declaration that writes what a program changes into the attribute. */
 function made(element) {
   const { CSSStyleDeclaration } = wanted("cssstyle", "styles");
-  const declaration = new CSSStyleDeclaration((text) => exclusively(element, () => setAttribute(element, "style", text)));
+  const declaration = new CSSStyleDeclaration((text) => exclusively(element, writeNow, text));
   if (hasAttribute(element, "style")) read(element, declaration);
   return declaration;
 }
@@ -45,11 +45,20 @@ export function styleChanged(element) {
   if (style !== undefined) read(element, style);
 }
 
+const quickStyle = (general, fits) => ({
+  operation() {
+    const its = stateOf(this);
+    const style = its?.kept?.style;
+    return style !== undefined && fits(its) ? style : general.call(this);
+  },
+});
+
 /** What elements of HTML, SVG and MathML have. */
 export const styleAttribute = {
   style: {
     type: "DOMString",
     read: styleKnown,
+    quick: quickStyle,
     set: (element, text) => void (styleOf(element).cssText = text),
   },
 };

@@ -35,6 +35,31 @@ const nodes = {
     },
     [[20, 20], [10, 10], false, false, false],
   ],
+  "Attr nodes say where they are among each other": [
+    ({ document }) => {
+      const element = document.createElement("div");
+      const inner = element.appendChild(document.createElement("p"));
+      for (const name of ["a", "b"]) element.setAttribute(name, "");
+      inner.setAttribute("a", "");
+      const [a, b] = [...element.attributes];
+      const [c] = inner.attributes;
+      const free = document.createAttribute("a");
+      const positions = [[a, a], [a, b], [b, a], [a, c], [c, a], [a, inner], [inner, a]].map(([one, other]) => one.compareDocumentPosition(other));
+      return [...positions, a.compareDocumentPosition(free) & 33, a.isEqualNode(c), a.isEqualNode(b), a.contains(null), a.isSameNode(a)];
+    },
+    [0, 36, 34, 4, 2, 4, 2, 33, true, false, false, true],
+  ],
+  "an Attr has no children, and is no end of a static range": [
+    ({ document, StaticRange }, attempt) => {
+      const element = document.createElement("div");
+      element.id = "x";
+      const attr = element.getAttributeNode("id");
+      const refused = [() => attr.appendChild(element), () => attr.insertBefore(element, null), () => attr.removeChild(element), () => attr.appendChild({})];
+      refused.push(() => new StaticRange({ startContainer: attr, startOffset: 0, endContainer: attr, endOffset: 0 }), () => attr.compareDocumentPosition({}));
+      return [...refused.map(attempt), attr.hasChildNodes(), attr.getRootNode() === attr];
+    },
+    ["HierarchyRequestError", "HierarchyRequestError", "NotFoundError", "TypeError", "InvalidNodeTypeError", "TypeError", false, true],
+  ],
   "an Attr is an end of a range, and is observed": [
     ({ document, MutationObserver }, attempt) => {
       const element = document.body.appendChild(document.createElement("p"));

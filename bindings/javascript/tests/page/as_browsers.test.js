@@ -44,3 +44,9 @@ test("faults in a context are of its own realm", { skip }, () => {
   assert.equal(isOwn("const { proxy, revoke } = Proxy.revocable({}, {}); revoke(); document.createTreeWalker(document, 1, proxy).firstChild();"), true);
   assert.equal(isOwn("const { proxy, revoke } = Proxy.revocable(() => 1, {}); revoke(); document.createNodeIterator(document, 1, proxy).nextNode();"), true);
 });
+
+test("an Attr has no XML, as DOM Parsing and Serialization says", { skip }, async () => {
+  const { document, XMLSerializer } = await WINDOWS.page();
+  document.body.id = "x";
+  assert.equal(new XMLSerializer().serializeToString(document.body.getAttributeNode("id")), "");
+});
