@@ -357,9 +357,8 @@ class Program(Release):
 
     def test_referee(self):
         """The referee's words, what it keeps of a run and its page, and the texts for maintainers."""
-        top = self.unpacked(self.file(ARCHIVES))
-        words = ["--program", os.path.join(top, "bin/domserve"), "--library", os.path.join(top, "lib")]
-        self.tries("referee/test.py", *words, "Words", "Table", "Lines", "Kept", "Reports.test_issues", "Reports.test_in_node")
+        program = os.path.join(self.unpacked(self.file(ARCHIVES)), "bin/domserve")
+        self.tries("referee/test.py", "--program", program, "Words", "Table", "Lines", "Kept", "Reports.test_issues", "Reports.test_in_node")
 
 
 @needs("dpkg-deb")
