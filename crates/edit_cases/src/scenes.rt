@@ -234,24 +234,6 @@ fn tried(rt: &impl Abort, world: &mut World, alloc: Global, course: &mut Course,
     }
 }
 
-// Calls, and once more if memory was refused and no number was used, since a scene names its nodes by numbers. Returns whether it was granted.
-fn tried_twice(
-    rt: &impl Abort,
-    world: &mut World,
-    alloc: Global,
-    course: &mut Course,
-    call: Call,
-) -> bool
-    requires { IsWhole world.old }
-    ensures { IsWhole world.new }
-{
-    let made = world.tree.made();
-    if tried(rt, world, alloc, course, call) {
-        return true;
-    }
-    world.tree.made() == made && tried(rt, world, alloc, course, call)
-}
-
 // Returns whether the condition of facts holds.
 fn is_due(world: &World, course: Course, when: When) -> bool {
     match when {
@@ -275,7 +257,7 @@ fn play_row(
 {
     match row {
         Row::Do(call) => {
-            if !tried_twice(rt, world, alloc, course, call) {
+            if !tried(rt, world, alloc, course, call) && !tried(rt, world, alloc, course, call) {
                 return Err(AllocError);
             }
         }
