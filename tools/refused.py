@@ -69,9 +69,9 @@ COUNTS = re.compile(rb"growths (\d+), refused (\d+), left (-?\d+), most (\d+)\n"
 # How a test says that memory was wanting: by its answer, or at its assertion that memory was there.
 SAYS = re.compile(rb"^error: Alloc(Error|Failed \{ \.\. \})$", re.M)
 ASSERTS = re.compile(rb"^(assertion failed: ([a-z_]+\.is_ok\(\)|through_a_pointer\(rt\.alloc\(\)\) == Some\(.*\))|  left: Err\(Failed\))$", re.M)
-# Modules whose scenes name nodes by numbers, some of which a refused copy uses: these end where a number is not the node's that they mean.
+# Modules whose scenes name nodes by numbers, some of which a refused call may use: these may then end at an assertion of their own about other nodes.
 NUMBERED = {("edit_cases", "documents")}
-HOLDS = re.compile(rb"^assertion failed: world\.tree\.holds\(node\)$", re.M)
+OF_SCENES = re.compile(rb"^test stopped at src/(facts|scenes)\.rt:\d+:\d+$", re.M)
 VALGRIND = ["valgrind", "-q", "--soname-synonyms=somalloc=nouserintercepts", "--error-exitcode=9"]
 VALGRIND += ["--leak-check=full", "--show-leak-kinds=all", "--errors-for-leak-kinds=all"]
 
@@ -128,7 +128,7 @@ class Test:
         """With one growth refused it passes, or says that memory was wanting."""
         found = self.run(REFUSE_AT=str(growth))
         told = found.out + found.said
-        is_told = ASSERTS.search(told) or (self.is_numbered and HOLDS.search(told))
+        is_told = ASSERTS.search(told) or (self.is_numbered and OF_SCENES.search(told))
         if found.status == -6 and is_told and not self.must_pass:
             return
         if found.refused == 0 or (found.status != 0 and (self.must_pass or found.status != 101 or not SAYS.search(told))):
