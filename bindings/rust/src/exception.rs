@@ -66,7 +66,8 @@ exceptions! {
     BadCommand, HP_BAD_COMMAND, "bad-command";
     /// A line has other arguments than its command.
     BadArguments, HP_BAD_ARGUMENTS, "bad-arguments";
-    /// Out of memory, now or before: the session has ended. What it holds can still be read and serialized.
+    /// Out of memory. A question, or a call that makes an object, has changed nothing, and the session goes on. Else it has ended, now or
+    /// before: it can still be read and serialized.
     OutOfMemory, HP_OUT_OF_MEMORY, "out-of-memory";
     /// The limits of a session are out of their range.
     BadLimits, HP_BAD_LIMITS, "bad-limits";

@@ -1,5 +1,5 @@
 -- Arguments that make no question: the handle stays, and the status is theirs, whether the session goes on or has ended.
-use Rattle.std.proofs.Common.{◌≡◌, ℕ, Bool, true, false, refl, sym, subst, Result, Err}
+use Rattle.std.proofs.Common.{◌≡◌, ℕ, Bool, true, false, refl, sym, subst, inl, Result, Err}
 use Rattle.dom_model.specs.Definitions.{Command, Step, World}
 use Rattle.dom_c.specs.{Answers.Ends, Answers.AsksOrEnded, declared.kept.Kept.Kept}
 
@@ -12,7 +12,9 @@ refused-asked k malformed = at k.ended refl
     at : (b : Bool) → k.ended ≡ b → AsksOrEnded b (Err malformed) k k malformed
     at true is = (refl, refl)
     at false is = record {
-      ends = subst (λ (q : Bool). Ends q none k k malformed) (sym is) (is, (refl, refl));
+      ends = subst (λ (q : Bool). Ends q none k k malformed) (sym is) (is, inl (refl, refl));
+      goes_on = λ _ _. refl;
+      is_open = λ open_before _. open_before;
       bounds = refl;
       limit = refl;
       line = refl;

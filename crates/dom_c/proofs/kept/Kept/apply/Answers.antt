@@ -1,4 +1,7 @@
-use Rattle.std.proofs.Common.{tests, rules}
+use Rattle.std.proofs.Common.{◌≡◌, ◌∙◌, false, sym, ap, Ok, Err, tests, rules}
+use Rattle.dom_session.specs.declared.session.OutOfMemory.{OutOfMemory}
+use Rattle.dom_wire.specs.Sessions.{command_view}
+use Rattle.dom_c.proofs.Spared.{not_ended, steps-spared, steps-ended}
 use Rattle.dom_c.proofs.kept.Kept.apply.Goals as goal
 
 pub returns-then-self : goal.returns-then-self
@@ -7,5 +10,15 @@ returns-then-self c = search (tests, rules)
 pub returns-in-Ok : goal.returns-in-Ok
 returns-in-Ok c = search (tests, rules)
 
-pub returns-in-Err : goal.returns-in-Err
-returns-in-Err c = search (tests, rules)
+pub returns-in-Err-Refused : goal.returns-in-Err-Refused
+returns-in-Err-Refused c =
+    let on : c.args.self.now.ended ≡ false = cc in
+    steps-spared (Ok (command_view c.args.command)) c.args.self.now c.apply.new.self on
+    (c.in-Err-Refused.ensures.same (ap (λ (e : OutOfMemory). Err e) c.in-Err-Refused.field-0-is)) c.apply.ensures.bounds
+
+pub returns-in-Err-Ended : goal.returns-in-Err-Ended
+returns-in-Err-Ended c =
+    let ended = c.in-Err-Ended.ensures.ended (ap (λ (e : OutOfMemory). Err e) c.in-Err-Ended.field-0-is) in
+    rw c.end.ensures.kept
+    (steps-ended (Ok (command_view c.args.command)) c.args.self.now c.apply.new.self c.apply.ensures.bounds
+    (λ going is_open. absurd (not_ended c.args.self.now.session c.apply.new.self (c.in-Err-Ended.ensures.all_or_nothing going) is_open ended)))
