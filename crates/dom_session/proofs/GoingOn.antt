@@ -1,5 +1,5 @@
 -- What is as it was if memory was refused, and for which commands it is.
-use Rattle.std.proofs.Common.{◌≡◌, Bool, true, false, refl, sym, subst, ap}
+use Rattle.std.proofs.Common.{◌≡◌, Bool, true, false, Result, Ok, Err, OnErr, refl, sym, subst, ap}
 use Rattle.dom_model.specs.Commands.Command.{Command}
 use Rattle.dom_model.specs.Commands.Answer.{Bounds}
 use Rattle.dom_observe.specs.Watchers.{Watches}
@@ -11,6 +11,11 @@ as_it_was v = record { is = refl; stands = λ w shows. shows }
 
 pub as_it_was-same : (old new : World) → new ≡ old → IsAsItWas old new
 as_it_was-same old new same = subst (λ (v : World). IsAsItWas old v) (sym same) (as_it_was old)
+
+-- the same of a call that changes nothing if it is refused memory
+pub as_it_was-on_err : {A E : Type 0} (r : Result A E) (old new : World) → OnErr r (new ≡ old) → OnErr r (IsAsItWas old new)
+as_it_was-on_err (Ok x) old new same = tt
+as_it_was-on_err (Err e) old new same = as_it_was-same old new same
 
 -- only more room for the numbers ahead
 pub as_it_was-covers : (old new : World) → CoversAhead old new → IsWhole new → IsAsItWas old new

@@ -1,6 +1,6 @@
 use Rattle.std.proofs.Common.{◌≡◌, true, false, ap, tests, rules}
 use Rattle.dom_edit.specs.declared.world.World.{World}
-use Rattle.dom_session.specs.{Bounding.bounds_of, Limiting.numbered, Views.command_view, GoingOn.is_question, GoingOn.goes_on}
+use Rattle.dom_session.specs.{Bounding.bounds_of, Limiting.numbered, Views.command_view, GoingOn.goes_on}
 use Rattle.dom_session.proofs.{Applying.IsShown-step, Applying.IsAnswered-step, WorldsKept.left_ended, WorldsKept.left_open, GoingOn.as_before, GoingOn.as_before-world, GoingOn.shown_as, GoingOn.going-asked}
 use Rattle.dom_session.proofs.session.Session.apply.Goals as goal
 
@@ -8,6 +8,13 @@ pub invariant_of-self : goal.invariant_of-self
 invariant_of-self c =
     let on : c.self.inside.ended ≡ false = cc in
     let shown = IsShown-step c.self.inside.world c.answered.new.world (numbered c.self.inside.limits.numbers) (command_view c.args.command) c.in-Ok.reply (c.self.invariant.1 on) c.in-Ok.ensures.step in
+    (c.self.invariant.0, λ _. shown, shown.shows.whole)
+
+pub invariant_of-self-then-stays_open : goal.invariant_of-self-then-stays_open
+invariant_of-self-then-stays_open c =
+    let on : c.self.inside.ended ≡ false = cc in
+    let going : goes_on (command_view c.args.command) ≡ true = cc in
+    let shown = shown_as c.self.inside.world c.answered.new.world (c.in-Err.ensures.goes_on going) (c.self.invariant.1 on) in
     (c.self.invariant.0, λ _. shown, shown.shows.whole)
 
 pub returns-in-Ok-clause-answers : goal.returns-in-Ok-clause-answers
