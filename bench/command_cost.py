@@ -41,7 +41,7 @@ def answered(program, lines):
         for line in batch:
             reply = program.stdout.readline()
             if not reply.startswith(begins(line)):
-                sys.exit(f"{json.dumps(line)} was answered {reply.decode()[:80]!r}")
+                sys.exit(f"the reply to {json.dumps(line)} was {reply.decode()[:80]!r}, and has to begin with {begins(line).decode()!r}")
 
 
 def counted(state, program):
@@ -64,7 +64,7 @@ def instructions(built, making, commands, work):
         for line in profile:
             if line.startswith("totals:"):
                 return int(line.split()[1])
-    sys.exit("no count")
+    sys.exit("callgrind wrote no count of instructions")
 
 
 def empty_line(built, work):
@@ -88,7 +88,7 @@ def main():
     given, apart = words_of(__doc__, takes_words), False
     pairs = [pair for pair in PAIRS if all(word in pair[0] for word in given.words)]
     if not pairs:
-        sys.exit(f"command_cost.py: no pair's name has {' and '.join(given.words)}")
+        sys.exit(f"there is no pair whose name has {' and '.join(given.words)}: {', '.join(dict.fromkeys(it[0] for it in PAIRS))}")
     with tempfile.TemporaryDirectory() as work:
         empty = empty_line(given.program, work)
         print(f"an empty line: {empty:.0f}, which the others are told without", flush=True)

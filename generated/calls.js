@@ -146,6 +146,7 @@ export const callsOver = (module, { reserve, putName, putText, putOctets, putNum
     return status === 0 ? textAt() : status;
   },
   hp_in_use: module.hp_in_use,
+  hp_nodes_made: module.hp_nodes_made,
   hp_data: module.hp_data,
   hp_set_data(session, node, data) {
     let at = reserve(2 * data.length + 8);

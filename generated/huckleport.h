@@ -569,13 +569,19 @@ uint8_t hp_attribute_at(hp_session *session, uint32_t node, size_t index, hp_byt
 
 /** @} */
 
-/** @name The number of objects in a session, read without a command: the last answer stays, and no memory is taken
+/** @name The numbers of objects in a session, read without a command: the last answer stays, and no memory is taken
  * @{ */
 
 /** Writes the number of objects of each kind, in constant time, so that a host can tell its garbage collector the
  * session's size.
  * @return HP_OK, or why it was refused. */
 uint8_t hp_in_use(hp_session *session, hp_counts *counts);
+
+/** Writes how many nodes were ever made, in constant time. They have the numbers below it, discarded ones too. If a
+ * call raises it, the nodes that the call made have the numbers from the earlier count on, so a host can discard
+ * fragments that no answer names.
+ * @return HP_OK, or why it was refused. */
+uint8_t hp_nodes_made(hp_session *session, uint64_t *count);
 
 /** @} */
 

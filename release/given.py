@@ -57,11 +57,26 @@ def page(path, beside=()):
     return files.text(re.sub(r"\[([^]]*)\]\(([^)\s]+)\)", kept, text_of(path)))
 
 
+def is_generated():
+    """Whether generated/ has the program of the sources that are here."""
+    try:
+        assemble.fits(assemble.PROGRAM)
+    except assemble.Unfit:
+        return False
+    return True
+
+
 def take(library, work):
-    """Copies the program and the libraries into a folder, with a header that is made anew; ends where something is missing or does not fit."""
+    """Copies the libraries into a folder, with a header that is made anew, and puts the program there: that beside the libraries, or else one that is built of
+    generated/, as anybody can build it again; if this is of other sources, the proved one. Ends where something is missing or does not fit.
+    """
     beside = os.path.join(library, "domserve")
     program = beside if os.path.isfile(beside) else PROGRAM
-    made_by = {os.path.join(library, ARCHIVE): "bindings/c/make.py", os.path.join(library, SHARED): "bindings/c/make.py", program: "tools/start.py"}
+    made_by = {os.path.join(library, it): "bindings/c/make.py" for it in (ARCHIVE, SHARED)}
+    if program == PROGRAM and is_generated():
+        assemble.program(os.path.join(work, "domserve"))
+    else:
+        made_by[program] = "tools/start.py"
     for path, script in made_by.items():
         if not os.path.isfile(path):
             sys.exit(f"{path} is not there: python3 {script} makes it")

@@ -1,9 +1,9 @@
 """Makes the files of a release of what was proved and built: for each processor an archive, packages for Debian and a wheel; a wheel for serving, a crate and
 a package for npm; an archive of references; an SBOM, what the files were made of, and their sums.
 
-Nothing is proved here. The program and the libraries are taken as they are, and for another processor built of generated/; the header is made of the exports,
-and the shared object has to show its calls and no other name. What this machine has no tools for is left out, with a line that says so. The same input gives
-the same bytes on one machine.
+Nothing is proved here. The libraries are taken as they are; the program, and all for another processor, is built of generated/. The header is made of the
+exports, and the shared object has to show its calls and no other name. What this machine has no tools for is left out, with a line that says so. The same input
+gives the same bytes on one machine.
 """
 import argparse
 import contextlib
@@ -28,12 +28,12 @@ ONCE = {"the wheel of serving": serving, "the crate": crate, "the package for np
 SUMS, MADE_OF, SBOM = "SHA256SUMS", "MADE-OF", f"{NAME}.spdx.json"
 
 
-def sums(folder):
+def sums(folder, algorithm="sha256"):
     """The sums of all that was made, by name."""
     found = {}
     for name in sorted(os.listdir(folder)):
         with open(os.path.join(folder, name), "rb") as file:
-            found[name] = hashlib.sha256(file.read()).hexdigest()
+            found[name] = hashlib.new(algorithm, file.read()).hexdigest()
     return found
 
 
@@ -65,10 +65,13 @@ def kit():
 
 
 def made_of(said=""):
-    """What a release was made of: its version, commit and kit, the sums that the proofs were noted under, and what the kit said of the proofs."""
+    """What a release was made of: its version, commit and kit, the compiler that assembled the proved code, the sums that the proofs were noted under, and
+    what the kit said of the proofs.
+    """
     commit = said_by("git", "rev-parse", "HEAD") or "unknown"
     changed = " with changes that are not committed" if said_by("git", "status", "--porcelain") else ""
     text = f"version: {VERSION}\ncommit: {commit}{changed}\nkit: {kit()}\nprocessor that made it: {HERE}\n"
+    text += f"compiler: {(said_by('cc', '--version') or 'unknown').splitlines()[0]}\n"
     with contextlib.suppress(OSError):
         text += f"\ngenerated/SUMS, which names the proved code and its sources:\n{assemble.text_of(assemble.SUMS)}"
     return f"{text}\nWhat the kit said of the proofs (rt ci):\n{said}" if said else text
@@ -78,7 +81,10 @@ def close(folder, key, said):
     """Writes what belongs to a release as a whole: what it was made of, its SBOM, its sums, and the signature of these."""
     write(folder, MADE_OF, made_of(said))
     moment = time.strftime("%Y-%m-%dT%H:%M:%SZ", time.gmtime(files.MOMENT))
-    write(folder, SBOM, notices.sbom(NAME, VERSION, moment, kit(), sums(folder)))
+    # (SPDX asks for SHA1 beside any other sum)
+    by_algorithm = {it: sums(folder, it) for it in ("sha1", "sha256")}
+    by_name = {name: {it: its[name] for it, its in by_algorithm.items()} for name in sorted(os.listdir(folder))}
+    write(folder, SBOM, notices.sbom(NAME, VERSION, moment, kit(), by_name))
     write(folder, SUMS, "".join(f"{total}  {name}\n" for name, total in sums(folder).items()))
     if key:
         sign(folder, key)
@@ -89,8 +95,8 @@ def sign(folder, key):
     subprocess.run(["gpg", "--batch", "--yes", "--local-user", key, "--armor", "--detach-sign", os.path.join(folder, SUMS)], check=True)
 
 
-def release(library, to, key=None, said=""):
-    """Makes all files of a release in a folder, which is empty before; returns what was left out, and why."""
+def release(library, to, key=None, said="", without=()):
+    """Makes all files of a release, but for some, in a folder, which is empty before; returns what was left out, and why."""
     left = {}
     for machine in MACHINES.values():
         with tempfile.TemporaryDirectory() as work:
@@ -99,7 +105,7 @@ def release(library, to, key=None, said=""):
             if machine.name == HERE:
                 makers |= {what: (maker, (work, to)) for what, maker in ONCE.items()}
             left |= {f"all for {machine.name}": why} if why else {}
-            left |= {what: why for what, (maker, given) in makers.items() if (why := maker(*given))}
+            left |= {what: why for what, (maker, given) in makers.items() if what not in without and (why := maker(*given))}
     close(to, key, said)
     return left
 

@@ -4,6 +4,7 @@
 if the kit that is here has another version of one.
 """
 import argparse
+import hashlib
 import json
 import os
 import re
@@ -76,18 +77,22 @@ def package(it):
 
 
 def sbom(name, version, moment, kit, sums):
-    """The SBOM of a release, in the form of SPDX: its files with their sums, and what they contain."""
+    """The SBOM of a release, in the form of SPDX: its files with their sums by algorithm, and what they contain."""
     own = {"SPDXID": "SPDXRef-huckleport", "name": "huckleport", "versionInfo": version, "downloadLocation": "NOASSERTION", "filesAnalyzed": False}
     own |= {"licenseConcluded": "MIT OR Apache-2.0", "licenseDeclared": "MIT OR Apache-2.0", "copyrightText": "2026 the maintainers of Huckleport"}
     of_kit = {"SPDXID": "SPDXRef-kit", "name": KIT, "versionInfo": kit, "downloadLocation": "NOASSERTION", "filesAnalyzed": False}
     of_kit |= {"licenseConcluded": "NOASSERTION", "licenseDeclared": "NOASSERTION", "copyrightText": "NOASSERTION"}
     packages = [own, of_kit, *map(package, contained())]
-    files = [{"SPDXID": f"SPDXRef-file-{at}", "fileName": f"./{path}", "checksums": [{"algorithm": "SHA256", "checksumValue": total}],
-        "licenseConcluded": "MIT OR Apache-2.0", "copyrightText": "NOASSERTION"} for at, (path, total) in enumerate(sums.items(), 1)]
+    files = [{"SPDXID": f"SPDXRef-file-{at}", "fileName": f"./{path}",
+        "checksums": [{"algorithm": algorithm.upper(), "checksumValue": total} for algorithm, total in its.items()],
+        "licenseConcluded": "MIT OR Apache-2.0", "copyrightText": "NOASSERTION"} for at, (path, its) in enumerate(sums.items(), 1)]
     relations = [("SPDXRef-DOCUMENT", "DESCRIBES", "SPDXRef-huckleport")]
-    relations += [("SPDXRef-huckleport", "CONTAINS", it["SPDXID"]) for it in [*packages[1:], *files]]
+    relations += [("SPDXRef-huckleport", "CONTAINS", it["SPDXID"]) for it in packages[1:]]
+    # (a package that is told without its files may contain none)
+    relations += [(it["SPDXID"], "GENERATED_FROM", "SPDXRef-huckleport") for it in files]
     head = {"spdxVersion": SPDX, "dataLicense": "CC0-1.0", "SPDXID": "SPDXRef-DOCUMENT", "name": name}
-    head |= {"documentNamespace": f"https://huckleport.example/spdx/{name}", "creationInfo": {"created": moment, "creators": ["Tool: huckleport-release"]}}
+    of_all = hashlib.sha256(repr(sums).encode()).hexdigest()[:16]
+    head |= {"documentNamespace": f"https://huckleport.example/spdx/{name}-{of_all}", "creationInfo": {"created": moment, "creators": ["Tool: huckleport-release"]}}
     named = [{"spdxElementId": one, "relationshipType": kind, "relatedSpdxElement": other} for one, kind, other in relations]
     return json.dumps({**head, "packages": packages, "files": files, "relationships": named}, indent=1) + "\n"
 

@@ -1,15 +1,18 @@
-"""The references of the libraries as pages of HTML, each by its language's own tool: doxygen, rustdoc, Sphinx."""
+"""The references of the libraries as pages of HTML, each by its language's own tool: doxygen, rustdoc, Sphinx. Debian has none for TypeScript, so declarations.py
+makes those.
+"""
 import os
 import shutil
 import subprocess
 import sys
 import tempfile
 
+import declarations
 import files
 from given import ARCHIVE, BINDINGS, HEADER, NAME, ROOT
 from machines import HERE, MACHINES, extension
 
-ENDINGS = (".html", ".css", ".js", ".svg", ".png", ".woff2", ".md", ".txt", ".inv", ".ts")
+ENDINGS = (".html", ".css", ".js", ".svg", ".png", ".woff2", ".md", ".txt", ".inv")
 
 
 def tried(*words, **how):
@@ -55,7 +58,7 @@ MAKERS = {"c": of_c, "rust": of_rust, "python": of_python}
 
 def references(work, to):
     """The archive of references; returns which are left out, or None."""
-    found = {f"typescript/{name}": it for name, it in files.under(os.path.join(BINDINGS, "javascript/lib"), (".d.ts",)).items()}
+    found = {f"typescript/{name}": it for name, it in declarations.pages(os.path.join(BINDINGS, "javascript")).items()}
     lacking = []
     for name, maker in MAKERS.items():
         with tempfile.TemporaryDirectory() as room:

@@ -11,7 +11,7 @@
 - what is for aarch64, under qemu.
 
 Nothing is fetched. What this machine has no tool for is left out, and said to be. The libraries are those of bindings/c/out, and the program that of
-crates/domserve/out, unless --library names another folder. It runs some minutes, and is no part of the gate.
+crates/domserve/out, unless --library names another folder. It runs some minutes; the gate runs the interface and NOTICE alone.
 """
 import argparse
 import glob
@@ -27,6 +27,7 @@ import tempfile
 import time
 import unittest
 import unittest.mock
+import xml.etree.ElementTree
 import zipfile
 
 sys.dont_write_bytecode = True
@@ -34,12 +35,13 @@ FOLDER = os.path.dirname(os.path.abspath(__file__))
 sys.path.insert(0, FOLDER)
 import abi
 import debian
+import declarations
 import elsewhere
 import files
 import making
 import notices
 import other
-from given import BINDINGS, LIBRARY, LICENSE, LICENSES, PROGRAM, SHARED, VERSION, make
+from given import BINDINGS, LIBRARY, LICENSE, LICENSES, PROGRAM, ROOT, SHARED, VERSION, is_generated, make
 from header import header
 from machines import HERE, MACHINES
 from making import MADE_OF, SBOM, SUMS, release
@@ -55,6 +57,8 @@ MACHINE = MACHINES[HERE]
 MULTIARCH = f"usr/lib/{MACHINE.multiarch}"
 OTHER = next(it for it in MACHINES.values() if it.name != HERE)
 ARCHIVES = f"*-{HERE}-linux.tar.gz"
+# What the proved code is built of.
+COPIED = ("crates", "generated", "tools", "bindings/c", "bindings/VERSION", "crates.txt", "HANDLES")
 # The files that tell of the release as a whole.
 WHOLE = {SUMS, f"{SUMS}.asc"}
 # Debian's Python, for which Debian has psycopg; and its cargo, for which Debian has the standard library for another processor.
@@ -142,24 +146,25 @@ class Sums(Release):
         packages = {it["name"]: it["versionInfo"] for it in found["packages"]}
         self.assertEqual(packages["huckleport"], VERSION)
         self.assertLessEqual({it["name"] for it in notices.components()}, set(packages))
-        named = {it["fileName"].removeprefix("./"): it["checksums"][0]["checksumValue"] for it in found["files"]}
+        named = {it["fileName"].removeprefix("./"): {its["algorithm"]: its["checksumValue"] for its in it["checksums"]} for it in found["files"]}
         self.assertEqual(set(named), set(os.listdir(self.made)) - WHOLE - {SBOM})
+        for name, its in named.items():
+            content = files.of(os.path.join(self.made, name)).content
+            self.assertEqual(its, {"SHA1": hashlib.sha1(content).hexdigest(), "SHA256": hashlib.sha256(content).hexdigest()})
         ids = {it["SPDXID"] for it in [*found["packages"], *found["files"], found]}
         self.assertEqual({it[end] for it in found["relationships"] for end in ("spdxElementId", "relatedSpdxElement")} - ids, set())
+        # (a package that is told without its files may contain none)
+        contained = {it["relatedSpdxElement"] for it in found["relationships"] if it["relationshipType"] == "CONTAINS"}
+        self.assertEqual(contained & {it["SPDXID"] for it in found["files"]}, set())
         with open(os.path.join(self.made, MADE_OF), encoding="utf-8") as file:
             text = file.read()
-        self.assertEqual([it.partition(":")[0] for it in text.splitlines()[:3]], ["version", "commit", "kit"])
+        self.assertEqual([it.partition(":")[0] for it in text.splitlines()[:5]], ["version", "commit", "kit", "processor that made it", "compiler"])
         self.assertIn(files.of(making.assemble.SUMS).content.decode(), text)
         self.assertTrue(making.made_of("dom_model: accepted\n").endswith("\nWhat the kit said of the proofs (rt ci):\ndom_model: accepted\n"))
 
-    def test_notice(self):
-        self.assertEqual(notices.faults(), [])
-        with open(notices.NOTICE, encoding="utf-8") as file:
-            self.assertEqual(file.read(), notices.notice())
-
     def test_terms(self):
         """Each archive and package has the terms whole."""
-        due = {it: files.of(os.path.join(os.path.dirname(FOLDER), it)).content for it in LICENSES}
+        due = {it: files.of(os.path.join(ROOT, it)).content for it in LICENSES}
         for file in sorted(os.listdir(self.made)):
             if file.endswith((".tar.gz", ".crate", ".tgz")) and "-references" not in file:
                 with tarfile.open(os.path.join(self.made, file)) as archive:
@@ -175,7 +180,7 @@ class Sums(Release):
     @needs("dpkg-deb")
     def test_terms_of_packages(self):
         """Debian's packages have the MIT License whole, NOTICE, and the place at which Debian has the Apache License."""
-        mit = files.of(os.path.join(os.path.dirname(FOLDER), "LICENSE-MIT")).content.decode().partition("Permission is hereby granted")[2].split()
+        mit = files.of(os.path.join(ROOT, "LICENSE-MIT")).content.decode().partition("Permission is hereby granted")[2].split()
         named = {it["name"] for it in notices.components()}
         for file in sorted(glob.glob(os.path.join(self.made, "*.deb"))):
             self.run_in("dpkg-deb", "--extract", file, os.path.basename(file))
@@ -206,12 +211,38 @@ class Sums(Release):
 
 class Again(Release):
     def test_same_bytes(self):
-        """A second making gives the same bytes; the references, which their tools write, are told apart."""
+        """A second making gives the same bytes. (The references are their tools' own.)"""
         if Release.given:
             self.skipTest("left out, since the release was not made now")
-        release(Release.library, self.folder)
+        release(Release.library, self.folder, without=("the references",))
         sums = [{name: total for name, total in making.sums(it).items() if name not in (*WHOLE, SBOM) and "-references" not in name} for it in (self.made, self.folder)]
         self.assertEqual(*sums)
+
+
+    @needs("gcc")
+    def test_program_and_libraries_in_two_folders(self):
+        """Copies of the repository in two places give the same bytes, and the release has them."""
+        if not is_generated():
+            self.skipTest("left out, since generated/ is of other sources")
+        made = []
+        for copy in ("one", "another/place"):
+            for it in COPIED:
+                path, to = os.path.join(ROOT, it), self.at(copy, it)
+                shutil.copytree(path, to, ignore=shutil.ignore_patterns("out", "__pycache__")) if os.path.isdir(path) else shutil.copy(path, to)
+            self.run_in(sys.executable, self.at(copy, "tools/assemble.py"), "--to", self.at(f"{len(made)}.domserve"))
+            self.run_in(sys.executable, self.at(copy, "bindings/c/make.py"))
+            paths = self.at(f"{len(made)}.domserve"), *(self.at(copy, "bindings/c/out", it) for it in ("libhuckleport.a", SHARED))
+            made.append([files.of(it).content for it in paths])
+        self.assertEqual(*made)
+        top = self.unpacked(self.file(ARCHIVES))
+        self.assertEqual([files.of(os.path.join(top, it)).content for it in ("bin/domserve", "lib/libhuckleport.a", f"lib/{SHARED}")], made[0])
+
+
+class Notice(unittest.TestCase):
+    def test_has_each_crate_with_its_version(self):
+        self.assertEqual(notices.faults(), [])
+        with open(notices.NOTICE, encoding="utf-8") as file:
+            self.assertEqual(file.read(), notices.notice())
 
 
 class Interface(unittest.TestCase):
@@ -276,9 +307,10 @@ class Archive(Release):
     @needs("man")
     def test_man_page(self):
         top = self.unpacked(self.file(ARCHIVES))
-        pages = {it: self.run_in("man", "--pager=cat", os.path.join(top, f"share/man/man{it[-1]}", it), MANWIDTH="100") for it in ("domserve.1", "huckleport.3")}
+        due = {"domserve.1": ("ENVIRONMENT", "FILES", "EXIT STATUS", "EXAMPLES"), "huckleport.3": ("RETURN VALUES", "FILES", "EXAMPLES"), "domserve-explain.1": ("EXIT STATUS", "EXAMPLES")}
+        pages = {it: self.run_in("man", "--pager=cat", os.path.join(top, f"share/man/man{it[-1]}", it), MANWIDTH="100") for it in due}
         self.assertIn("How many bytes a line may have, from 1 to 1073741824.", pages["domserve.1"])
-        for name, parts in (("domserve.1", ("ENVIRONMENT", "FILES", "EXIT STATUS", "EXAMPLES")), ("huckleport.3", ("RETURN VALUES", "FILES", "EXAMPLES"))):
+        for name, parts in due.items():
             self.assertLessEqual(set(parts), set(pages[name].splitlines()))
         dates = {re.search(r"\w+ \d+, \d{4}", it.splitlines()[-1])[0] for it in pages.values()}
         self.assertEqual(dates, {time.strftime("%B %d, %Y", time.gmtime(files.MOMENT)).replace(" 0", " ")})
@@ -311,6 +343,23 @@ class Archive(Release):
         self.run_in("cmake", "--build", "built")
         self.tries_editor(self.at("built/by_shared"))
         self.tries_editor(self.at("built/by_static"))
+
+
+class Program(Release):
+    """The program's manners, and the referee, by the files of the archive."""
+
+    def tries(self, script, *words):
+        self.assertRegex(self.run_in(sys.executable, os.path.join(ROOT, script), *words), r"(?m)^[1-9]\d* passed, 0 failed\n\Z")
+
+    def test_manners(self):
+        """Reasons of failed reads and writes, a closed pipe, streams that are not ready, a terminal, limits, --help, --version and the commands."""
+        self.tries("tools/manners.py", "--program", os.path.join(self.unpacked(self.file(ARCHIVES)), "bin/domserve"))
+
+    def test_referee(self):
+        """The referee's words, what it keeps of a run and its page, and the texts for maintainers."""
+        top = self.unpacked(self.file(ARCHIVES))
+        words = ["--program", os.path.join(top, "bin/domserve"), "--library", os.path.join(top, "lib")]
+        self.tries("referee/test.py", *words, "Words", "Table", "Lines", "Kept", "Reports.test_issues", "Reports.test_in_node")
 
 
 @needs("dpkg-deb")
@@ -504,12 +553,29 @@ class Npm(Release):
 class References(Release):
     def test_each_language(self):
         top = self.unpacked(self.file("*-references.tar.gz"))
-        for tool, page, words in (("doxygen", "c/index.html", "Huckleport"), ("cargo", "rust/huckleport/index.html", "huckleport"), (None, "typescript/index.d.ts", "Document")):
-            if tool is None or shutil.which(tool):
+        for tool, page, words in (("doxygen", "c/index.html", "Huckleport"), ("cargo", "rust/huckleport/index.html", "huckleport")):
+            if shutil.which(tool):
                 with open(os.path.join(top, page), encoding="utf-8") as file:
                     self.assertIn(words, file.read())
         if subprocess.run([SYSTEM, "-c", "import sphinx"], stderr=subprocess.DEVNULL, check=False).returncode == 0:
             self.assertTrue(os.path.isfile(os.path.join(top, "python/index.html")))
+
+    def test_typescript(self):
+        """The pages have each name and each comment of the declarations, and each of their links leads to a place on them."""
+        top = os.path.join(self.unpacked(self.file("*-references.tar.gz")), "typescript")
+        pages = {it: xml.etree.ElementTree.parse(os.path.join(top, it)) for it in os.listdir(top) if it.endswith(".html")}
+        places = {f"{page}#{it.get('id')}" for page, tree in pages.items() for it in tree.iter() if it.get("id")} | set(pages)
+        links = {it.get("href") if it.get("href")[0] != "#" else page + it.get("href") for page, tree in pages.items() for it in tree.iter("a")}
+        self.assertEqual(links - places, set())
+        words = {page: " ".join("".join(tree.getroot().itertext()).split()) for page, tree in pages.items()}
+        for module in declarations.modules(os.path.join(BINDINGS, "javascript")):
+            with open(module.place, encoding="utf-8") as file:
+                text = file.read()
+            names = re.findall(r"^(?:export )?(?:default )?(?:declare )?(?:interface|class|const|function|type) (\w+)", text, re.M)
+            self.assertGreater(len(names), 0)
+            self.assertEqual([it for it in names if f"{module.page}#{it}" not in places], [])
+            comments = [" ".join(re.sub(r"^ *\* ", "", it, flags=re.M).replace("`", "").split()) for it in re.findall(r"/\*\*(.*?)\*/", text, re.S)]
+            self.assertEqual([it for it in comments if it not in words[module.page].replace("`", "")], [])
 
 
 class Elsewhere(Release):
@@ -592,11 +658,17 @@ class Elsewhere(Release):
         self.assertEqual(self.run_in(CARGO, "run", "--quiet", "--offline", "--target", elsewhere.TARGET, **settings, RUSTC="/usr/bin/rustc"), PRINTED)
 
 
+# The tests that need no release, which the gate runs.
+WITHOUT = {"Notice", "Interface"}
+
+
 def missing(given):
     """What no release can be made without, where it is not there."""
     found = [os.path.join(given.library, it) for it in ("libhuckleport.a", SHARED)]
     program = os.path.join(given.library, "domserve")
-    return [it for it in [*found, program if os.path.isfile(program) else PROGRAM] if not os.path.isfile(it)]
+    if not os.path.isfile(program) and not is_generated():
+        found.append(PROGRAM)
+    return [it for it in found if not os.path.isfile(it)]
 
 
 def main():
@@ -605,14 +677,15 @@ def main():
     parser.add_argument("--release", metavar="FOLDER", help="a release that is there, in place of one that is made now")
     parser.add_argument("only", nargs="*", metavar="TEST", help="only these tests, as Wheel or Archive.test_by_cmake")
     given = parser.parse_args()
-    lacking = [] if given.release else missing(given)
+    only = {it.partition(".")[0] for it in given.only}
+    is_made = not given.release and (not only or bool(only - WITHOUT))
+    lacking = missing(given) if is_made else []
     if lacking:
         print(f"left out: the release, since there is no {lacking[0]}")
         return 0
     with tempfile.TemporaryDirectory() as folder:
-        if not given.release:
-            for what, why in release(given.library, folder).items():
-                print(f"left out: {what}, since {why}")
+        for what, why in release(given.library, folder).items() if is_made else ():
+            print(f"left out: {what}, since {why}")
         Release.made, Release.given, Release.library = os.path.abspath(given.release or folder), given.release, given.library
         ran = unittest.main(argv=[__file__, *given.only], exit=False, verbosity=2)
     return 0 if ran.result.wasSuccessful() else 1

@@ -85,7 +85,7 @@ def tell_lines(what, count, seconds):
 def main():
     given = words_of(__doc__, takes_counts)
     if given.processes < 1 or given.nodes < 1:
-        sys.exit("--processes and --nodes are at least 1")
+        sys.exit(f"--processes and --nodes have to be at least 1, not {given.processes} and {given.nodes}")
     hard = resource.getrlimit(resource.RLIMIT_NOFILE)[1]
     resource.setrlimit(resource.RLIMIT_NOFILE, (min(hard, 2 * given.processes + 64) if hard > 0 else hard, hard))
     seconds, processes = timed(lambda: begun(given.program, given.processes))

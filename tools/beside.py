@@ -1,6 +1,6 @@
 #!/usr/bin/env python3
 """Runs all tests that need no proof, side by side: of generated/, of the tools, of dialogues, of want of memory, of costs, of README, of each binding, of
-served documents, and of the referee. With --proved it runs those that want the Rattle kit and what it proved as well.
+a release's interface, of served documents, and of the referee. With --proved it runs those that want the Rattle kit and what it proved as well.
 
 What they share is built first: the program, the library for C, the module for Python and the one for JavaScript. Tests that build it again put each file in
 place whole, so others may read it meanwhile. Each task is begun once those that it needs have ended, never more at once than processors. What it writes is
@@ -65,11 +65,12 @@ TASKS = (
     Task("linters", ("tools/linted.py",), seconds=60),
     Task("costs", ("bench/hostile.py",), (PROGRAM,), seconds=60),
     Task("aarch64", ("tools/other.py",), seconds=100),
-    Task("README", ("tools/printed.py", "README.md"), (PROGRAM,), seconds=60),
+    Task("README", ("tools/docs.py", "run", "README.md"), (PROGRAM,), seconds=60),
     Task("generated/", ("tools/test_generated.py",), (PROGRAM,), seconds=60),
     Task("dialogues", ("tools/pieces.py",), (PROGRAM,), seconds=5),
     Task("failing streams", ("tools/manners.py",), (PROGRAM,), seconds=5),
     Task("versions", (BINDINGS, "versions"), seconds=1),
+    Task("the interface and NOTICE of a release", ("release/test.py", "Interface", "Notice"), (LIBRARY,), seconds=5),
     Task("edits", ("tools/test_edits.py",), is_of_kit=True),
     Task("tools", ("tools/test.py",)),
 )

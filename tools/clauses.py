@@ -1,16 +1,12 @@
-#!/usr/bin/env python3
-"""Tests that each word of a clause or a definition stands in specs, so that contracts are read without opening a proof, and that the definitions
+"""Checks that each word of a clause or a definition is defined in specs, so that contracts are read without opening a proof, and that the definitions
 are read from front to back.
 
-Looked at are the imports of crates/*/src (`ghost use`) and of crates/*/specs: none may name words of a file of proofs. In crates/dom_model/specs,
-Lib.antt and the file beside each folder name folders and files in reading order: a definition uses words of its own file and of those ahead of it
-alone. Prints each import that fails, and fails then.
+It reads the imports of crates/*/src (`ghost use`) and of crates/*/specs: none may name words of a file of proofs. In crates/dom_model/specs, Lib.antt and
+the file beside each folder name folders and files in reading order: a definition uses only words of its own file and of those before it.
 """
-import argparse
 import glob
 import os
 import re
-import sys
 
 ROOT = os.path.dirname(os.path.dirname(os.path.realpath(__file__)))
 MODEL = f"{ROOT}/crates/dom_model/specs"
@@ -45,19 +41,13 @@ def back_edges():
     return bad + [f"{it}: no file names it in reading order" for it in sorted(files - set(order))]
 
 
-def main():
-    argparse.ArgumentParser(description=__doc__, formatter_class=argparse.RawDescriptionHelpFormatter).parse_args()
-    bad, seen = [], 0
+def check():
+    """Returns each import that fails, and what holds without any."""
+    faults, seen = [], 0
     files = [it for part in ("src/**/*.rt", "specs/**/*.antt") for it in glob.glob(f"{ROOT}/crates/*/{part}", recursive=True)]
     for file in sorted(files):
         for line, module in imports(file):
             seen += 1
             if ".proofs." in module and module.split(".")[1] in os.listdir(f"{ROOT}/crates"):
-                bad.append(f"{os.path.relpath(file, ROOT)}:{line}: {module} stands in proofs")
-    later = back_edges()
-    print("\n".join([*bad, *later, f"{seen} imports of clauses and definitions, {len(bad)} from proofs; {len(later)} definitions ahead of what they use"]))
-    return 1 if bad or later else 0
-
-
-if __name__ == "__main__":
-    sys.exit(main())
+                faults.append(f"{os.path.relpath(file, ROOT)}:{line}: {module} is a file of proofs: move the word to specs")
+    return faults + back_edges(), f"{seen} imports of clauses and definitions: none is from proofs, or of a file that is read later"

@@ -1,11 +1,9 @@
-#!/usr/bin/env python3
-"""Writes docs/commands.json, the table of the commands for programs that read it, from the definitions and docs/commands.md.
+"""The table of the commands for programs, docs/commands.json, made from the definitions and docs/commands.md.
 
-The definitions have each command's name, the shapes of its arguments and what a line of it makes, and the names of moves, verdicts and options. The page has
-the words: its group, what its arguments are called and what it answers. Each has to agree with the other: names, number, shapes, and where null may stand.
-Where they do not, it says so and writes nothing. With --check nothing is written, and it fails where the file is not what both give.
+The definitions have each command's name, the shapes of its arguments, the command that its line makes, and the names of moves, verdicts and options. The
+page has the words: its group, the names of its arguments, and its reply. Both have to agree in names, number, shapes, and which arguments may be null.
+Otherwise nothing is written.
 """
-import argparse
 import json
 import os
 import re
@@ -140,7 +138,7 @@ def entry(table, group, name, words, answer):
 def made(given):
     """The text of the file: a line for each list of names, and one for each command."""
     table, line = rows(given[TABLE]), lambda it: json.dumps(it, ensure_ascii=False)
-    head = {"written": f"by tools/commands.py from {DEFINITIONS} and {PAGE}; not to be edited", **names_in(given[LINE])}
+    head = {"written": f"by tools/docs.py from {DEFINITIONS} and {PAGE}; not to be edited", **names_in(given[LINE])}
     lists = "".join(f"  {line(name)}: {line(it)},\n" for name, it in head.items())
     commands = ",\n".join(f"    {line(entry(table, *it))}" for it in shown(given[PAGE]))
     return f'{{\n{lists}  "commands": [\n{commands}\n  ]\n}}\n'
@@ -154,24 +152,18 @@ def read_if_there(path):
         return file.read()
 
 
-def main():
-    words = argparse.ArgumentParser(description=__doc__, formatter_class=argparse.RawDescriptionHelpFormatter)
-    words.add_argument("--check", action="store_true", help="write nothing, and fail where the file is not what the definitions and the page give")
-    is_check = words.parse_args().check
-    given, path = texts(), os.path.join(ROOT, MADE)
-    found = [*wrongs(given)]
-    if not found:
-        text = made(given)
-        if not is_check:
-            with open(path, "w", encoding="utf-8") as file:
-                file.write(text)
-        elif read_if_there(path) != text:
-            found.append(f"{MADE} is not what the definitions and {PAGE} give: python3 tools/commands.py writes it")
-    for it in found:
-        print(it)
-    print(f"the table of commands: {len(found)} wrong" if found else f"{MADE}: {len(rows(given[TABLE]))} commands, as the definitions and {PAGE} have them")
-    return 1 if found else 0
+def check():
+    """Returns the faults of the page and of the file, and what holds without any."""
+    given = texts()
+    faults = [*wrongs(given)]
+    if not faults and read_if_there(os.path.join(ROOT, MADE)) != made(given):
+        faults.append(f"{MADE} is not what the definitions and {PAGE} give: run python3 tools/docs.py write commands")
+    return faults, f"{MADE} has the {len(rows(given[TABLE]))} commands of the definitions and {PAGE}"
 
 
-if __name__ == "__main__":
-    sys.exit(main())
+def write():
+    """Writes the file, if the page and the definitions agree."""
+    given = texts()
+    if not [*wrongs(given)]:
+        with open(os.path.join(ROOT, MADE), "w", encoding="utf-8") as file:
+            file.write(made(given))

@@ -1,18 +1,17 @@
-#!/usr/bin/env python3
-"""Draws the layers of crates.txt as docs/layers.svg, by graphviz (`dot`); with --check it only tells whether that picture shows the crates of crates.txt.
+"""The layers of crates.txt, which graphviz (`dot`) draws as docs/layers.svg.
 
 A box is a crate, with what SAYS has to say of it. An arrow leads to each crate that it lists, but to dom_model, which nearly all list and which is drawn
 as the ground; and not to those that another crate which it lists stands on as well.
 """
-import argparse
+import html
 import re
 import subprocess
-import sys
 
 from start import ROOT, listed, with_lower
 
 PICTURE = f"{ROOT}/docs/layers.svg"
 MODEL = "dom_model"
+ANEW = "run python3 tools/docs.py write layers"
 
 SAYS = {
     "domserve": "the program: streams, status",
@@ -82,22 +81,25 @@ def shown(picture):
     return {it.replace("&#45;", "-").replace("&gt;", ">") for it in re.findall(r"<title>([^<%]+)</title>", picture)}
 
 
-def main():
-    words = argparse.ArgumentParser(description=__doc__, formatter_class=argparse.RawDescriptionHelpFormatter)
-    words.add_argument("--check", action="store_true", help="write nothing, and fail where the picture shows other crates or arrows")
-    given, rows = words.parse_args(), listed()
-    unsaid = [it for it in rows if it not in SAYS]
-    if unsaid:
-        sys.exit(f"tools/layers.py: SAYS has no line for {', '.join(unsaid)}")
-    if not given.check:
-        subprocess.run(["dot", "-Tsvg", "-o", PICTURE], input=drawing(rows), text=True, check=True)
+def unsaid(rows):
+    return [it for it in rows if it not in SAYS]
+
+
+def check():
+    """Returns the faults of the picture, and what holds without any."""
+    rows = listed()
+    faults = [f"tools/layers.py: SAYS has no line for {it}" for it in unsaid(rows)]
     with open(PICTURE, encoding="utf-8") as it:
-        found = shown(it.read())
-    due = {*rows, *(f"{one}->{other}" for one, other in arrows(rows))}
-    is_same = found == due
-    print(f"docs/layers.svg: {len(rows)} crates, as crates.txt has them" if is_same else f"docs/layers.svg is not what crates.txt gives: run tools/layers.py ({sorted(found ^ due)[:4]})")
-    return 0 if is_same else 1
+        picture = it.read()
+    found, due, words = shown(picture), {*rows, *(f"{one}->{other}" for one, other in arrows(rows))}, html.unescape(picture)
+    faults += [f"docs/layers.svg: it lacks {it}: {ANEW}" for it in sorted(due - found)]
+    faults += [f"docs/layers.svg: it shows {it}, which crates.txt does not have: {ANEW}" for it in sorted(found - due)]
+    faults += [f"docs/layers.svg: it has other words for {it} than SAYS of tools/layers.py: {ANEW}" for it in rows if SAYS.get(it, "") not in words]
+    return faults, f"docs/layers.svg shows the {len(rows)} crates of crates.txt"
 
 
-if __name__ == "__main__":
-    sys.exit(main())
+def write():
+    """Draws the picture, if SAYS has each crate."""
+    rows = listed()
+    if not unsaid(rows):
+        subprocess.run(["dot", "-Tsvg", "-o", PICTURE], input=drawing(rows), text=True, check=True)

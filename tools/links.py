@@ -1,18 +1,16 @@
-#!/usr/bin/env python3
-"""Tests that what the pages at the top, docs/*.md and the pages of crates point at is there, and fails where something is not.
+"""Checks that each file, heading and name to which a page points is there: the pages at the top, docs/*.md and the pages of crates.
 
-Tested are: each link to a file of the repository, and its anchor among that file's headings; each file or folder named in backticks, by its
-path from the top, from the page, or by its last parts, with or without its ending (capitals as NAME and `*` stand for any word; what lies in a folder
-`out` or `build` is made by runs, and so passed over); each name in backticks, which stands in some file beside the documents (a plain word in small
-letters may be another program's, and is tested only on the pages that tell of definitions, clauses and commands); and that docs/definitions.md names
-each file of definitions and of laws of dom_model. (tools/commands.py tests the rows of docs/commands.md.)
+- A link leads to a file of the repository, and its anchor is among that file's headings.
+- A file or folder in backticks is named by its path from the top, from the page, or by its last parts, with or without its ending. Capitals as NAME and
+  `*` match any word. Files in a folder `out` or `build` are made by runs, so they are not checked.
+- A name in backticks is a word of some file beside the documents. A plain word in small letters may be another program's; it is checked only on the pages
+  about definitions, clauses and commands.
+- docs/definitions.md names each file of definitions and of laws of dom_model.
 """
 
-import argparse
 import glob
 import os
 import re
-import sys
 
 ROOT = os.path.dirname(os.path.dirname(os.path.realpath(__file__)))
 INDEX = "docs/definitions.md"
@@ -20,9 +18,9 @@ MODEL = "crates/dom_model"
 # The theorems of the dialogues, which tools/rows.py writes; the index names them by their folder.
 WRITTEN = f"{MODEL}/proofs/Dialogues/"
 PAGES = ("*.md", "docs/*.md", "crates/*/*.md")
-# The pages on which plain words are names too.
+# The pages whose plain words are names too.
 PAGES_OF_NAMES = ("docs/commands.md", INDEX, "docs/proved.md", "docs/rules.md")
-SOURCES = (".rt", ".antt", ".py", ".sh", ".edit", ".c", ".h", ".rs", ".toml", ".js", ".ts", ".json")
+SOURCES = (".sql", ".rt", ".antt", ".py", ".sh", ".edit", ".c", ".h", ".rs", ".toml", ".js", ".ts", ".json")
 ENDINGS = r"\.(?:rt|antt|py|sh|md|svg|txt|edit|c|h|rs|toml|in|out|opts|js|ts|json)"
 MADE = re.compile(r"(\A|/)(out|build)(/|\Z)")
 ANY_NAME = re.compile(r"(\b[A-Z]{2,}\b|\*)")
@@ -64,7 +62,7 @@ def anchors(page):
 
 
 def broken_link(page, target):
-    """Returns what is wrong with a link, if anything is."""
+    """Returns the fault of a link, if it has one."""
     path, _, anchor = target.partition("#")
     if re.match(r"\w+:", target):
         return None
@@ -104,7 +102,7 @@ def is_file_name(quoted):
 
 
 def quotes(page):
-    """Returns what stands in backticks on a page, but for the files that a reader is to make (a line that has a name and a colon alone)."""
+    """Returns the texts in backticks of a page, without files that a reader is to make (a line with only a name and a colon)."""
     return re.findall(r"(?<!`)`([^`\n]+)`(?!`)", re.sub(r"(?m)^`[^`\n]+`:$", "", prose(page)))
 
 
@@ -115,7 +113,7 @@ def names_in(quoted, page):
 
 
 def unknown_quote(quoted, page, known, lacking):
-    """Returns what is wrong with what stands in backticks, if anything is."""
+    """Returns the fault of a text in backticks, if it has one."""
     if is_file_name(quoted):
         return None if is_there(quoted, page, known) else f"no file or folder is called {quoted}"
     unknown = [it for it in names_in(quoted, page) if it in lacking]
@@ -138,27 +136,26 @@ def not_found(names, paths):
     return lacking
 
 
+def line_of(page, quoted):
+    """Returns the number of the first line of a page that has a text."""
+    text = text_of(page)
+    return text.count("\n", 0, max(text.find(quoted), 0)) + 1
+
+
 def wrongs(page, known, lacking):
-    """Returns what is wrong on a page."""
+    """Returns the faults of a page, each at its line."""
     text = prose(page)
     targets = re.findall(r"\]\(([^)\s]+)\)", text) + re.findall(r'(?:src|href|srcset)="([^"]+)"', text)
-    found = [broken_link(page, it) for it in targets] + [unknown_quote(it, page, known, lacking) for it in quotes(page)]
-    return [f"{page}: {it}" for it in found if it]
+    found = [(it, broken_link(page, it)) for it in targets] + [(f"`{it}`", unknown_quote(it, page, known, lacking)) for it in quotes(page)]
+    return [f"{page}:{line_of(page, quoted)}: {it}" for quoted, it in found if it]
 
 
-def main():
-    argparse.ArgumentParser(description=__doc__, formatter_class=argparse.RawDescriptionHelpFormatter).parse_args()
+def check():
+    """Returns the faults of all pages, and what holds without any."""
     paths = files()
     known = parts_of(paths)
     names = {name for page in pages() for it in quotes(page) for name in names_in(it, page)}
     lacking = not_found(names - known, paths)
-    found = [it for page in pages() for it in wrongs(page, known, lacking)]
-    found += [f"{INDEX}: it does not name {it}" for it in unnamed(paths)]
-    for it in found:
-        print(it)
-    print(f"{len(pages())} pages: {len(found)} wrong" if found else f"{len(pages())} pages: all that they point at is there")
-    return 1 if found else 0
-
-
-if __name__ == "__main__":
-    sys.exit(main())
+    faults = [it for page in pages() for it in wrongs(page, known, lacking)]
+    faults += [f"{INDEX}: it does not name {it}" for it in unnamed(paths)]
+    return faults, f"{len(pages())} pages: each file, heading and name to which they point is there"

@@ -1,5 +1,5 @@
 #!/usr/bin/env python3
-"""Tests the form of sources by the linters of each language, and that the man page and the completions of domserve have its options.
+"""Checks the form of sources by the linters of each language, and that the man page and the completions of domserve have its options.
 
 The options are read from the source `options.rt` of their crate, with their bounds and defaults; --help and, where the source has a version, --version are
 clap's own. What this machine has no tool for is left out, with a line that says so. With --write it lays the sources in C out.
@@ -21,11 +21,8 @@ OPTIONS = "crates/*/src/options.rt"
 SHARE = "release/share"
 MAN = f"{SHARE}/man/man1/domserve.1"
 COMPLETIONS = ("bash-completion/completions/domserve", "zsh/site-functions/_domserve", "fish/vendor_completions.d/domserve.fish")
-# The form of sources in C, and the sources, but for the one that is made.
-STYLES = {
-    "bindings/c/.clang-format": ("bindings/c/**/*.[ch]", "release/**/*.c", "tools/*.c", "generated/*.c", "examples/*.c"),
-    "bindings/.clang-format": ("bindings/python/core/*.[ch]", "bindings/web/**/*.[ch]"),
-}
+# The sources in C, but for the one that is made; .clang-format has their form.
+SOURCES_IN_C = ("bench/**/*.[ch]", "bindings/**/*.[ch]", "release/**/*.c", "tools/*.c", "generated/*.c", "examples/*.c")
 MADE = "bindings/python/core/calls.h"
 # Debian's packages for node are found by the one; by the other ESLint 9 reads .eslintrc.json too.
 ESLINT = {"NODE_PATH": "/usr/share/nodejs", "ESLINT_USE_FLAT_CONFIG": "false"}
@@ -89,8 +86,7 @@ def completions():
 
 def c_form(write=False):
     words = ["-i"] if write else ["--dry-run", "-Werror"]
-    sources = {style: [it for it in files(*patterns) if it != MADE] for style, patterns in STYLES.items()}
-    return [line for style, its in sources.items() for line in said("clang-format", f"--style=file:{style}", *words, *its)]
+    return said("clang-format", "--style=file", *words, *(it for it in files(*SOURCES_IN_C) if it != MADE))
 
 
 def python():
@@ -108,7 +104,7 @@ def shell():
 
 
 def javascript():
-    return said("eslint", "--max-warnings", "0", *files("bindings/**/*.js", "release/**/*.mjs", "referee/**/*.js"), **ESLINT)
+    return said("eslint", "--max-warnings", "0", *files("bench/**/*.js", "bindings/**/*.js", "release/**/*.mjs", "referee/**/*.js"), **ESLINT)
 
 
 def doxygen():
@@ -122,7 +118,8 @@ def doxygen():
 
 
 def mandoc():
-    return said("mandoc", "-T", "lint", "-W", "style", MAN)
+    """What mandoc says of the pages for man. (Its rules of style ask for installed pages, which the others name.)"""
+    return said("mandoc", "-T", "lint", "-W", "style", MAN) + said("mandoc", "-T", "lint", "-W", "warning", *files(f"{SHARE}/man/*/*"))
 
 
 def units():
@@ -144,7 +141,7 @@ def lacking(tools):
 TESTS = (
     ("the man page has the options", (), man_page),
     ("the completions have the options", (), completions),
-    ("the form of the man page", ("mandoc",), mandoc),
+    ("the form of the man pages", ("mandoc",), mandoc),
     ("the form of sources in C", ("clang-format",), c_form),
     ("the linter of Python", ("ruff", "flake8"), python),
     ("the form of sources in Rust", ("rustfmt",), rust),

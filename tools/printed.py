@@ -1,17 +1,14 @@
-#!/usr/bin/env python3
-"""Runs what README.md and docs/*.md print, in a fresh folder for each page, and compares what comes out where a `text` block follows.
+"""Runs the commands of README.md and docs/*.md, in a fresh folder for each page, and compares the output with the `text` block that follows.
 
-The folder has what the repository has, without what runs made; only the program and the library for C are taken over where they are built, so that
-nothing is proved again. Commands are the fenced `sh` blocks, each run as one script with bash, and the lines of four spaces that begin with a program
-here. A block behind a line that has only a name in backticks and a colon is saved in that file. What is not run is told, with the reason.
+The folder is a copy of the repository without files that runs made, but with the built program and library for C, so nothing is proved again. Commands are
+the fenced `sh` blocks, each run as one script with bash, and the lines of four spaces that begin with a program here. A block after a line that has only a
+name in backticks and a colon is saved in that file. Commands that are not run are listed, each with the reason.
 """
-import argparse
 import glob
 import os
 import re
 import shutil
 import subprocess
-import sys
 import sysconfig
 import tempfile
 from collections import namedtuple
@@ -22,7 +19,7 @@ PASSED_OVER = (
     (r"\.ci/run|\./test\b|\brt (ci|all)\b", "the gate itself, which proves all from nothing"),
     (r"--install|\bpip install|\bnpm install|\binstall -m|\bapt(-get)? |\bsystemctl\b|\bdocker\b|\bpodman\b", "installs, or needs what is not here"),
     (r"\b(NAME|FILE|PREFIX|FOLDER|CRATE)\b|-0\.\d", "a form, with words to put in"),
-    (r"\btools/(refused|size|printed)|\bbench|\brt \w+|playground", "a long run by hand"),
+    (r"\btools/(refused|size|docs\.py run)\b|\bbench|\brt \w+|playground", "a long run by hand"),
 )
 # What a block is not run without, by the first word of one of its lines.
 TOOLS = ("cargo", "node", "gcc", "python3", "socat", "doxygen", "man")
@@ -118,20 +115,14 @@ def run(page, folder):
             yield f"{name}: {fault or ('as printed' if block.shown else 'ran')}", True, bool(fault)
 
 
-def main():
-    words = argparse.ArgumentParser(description=__doc__, formatter_class=argparse.RawDescriptionHelpFormatter)
-    words.add_argument("pages", nargs="*", metavar="PAGE", help="only these pages, by their paths from the top")
-    pages = words.parse_args().pages or ["README.md", *sorted(os.path.relpath(it, ROOT) for it in glob.glob(f"{ROOT}/docs/*.md"))]
-    counts = [0, 0]
-    for page in pages:
+def run_all(pages):
+    """Runs pages, or all if none is given, prints what is said of each block, and returns how many failed."""
+    ran = failed = 0
+    for page in pages or ["README.md", *sorted(os.path.relpath(it, ROOT) for it in glob.glob(f"{ROOT}/docs/*.md"))]:
         with tempfile.TemporaryDirectory() as top:
             fresh(f"{top}/fresh")
-            for said, ran, failed in run(page, f"{top}/fresh"):
+            for said, is_run, is_wrong in run(page, f"{top}/fresh"):
                 print(said, flush=True)
-                counts = [counts[0] + ran, counts[1] + failed]
-    print(f"{counts[0]} ran, {counts[1]} wrong")
-    return 1 if counts[1] else 0
-
-
-if __name__ == "__main__":
-    sys.exit(main())
+                ran, failed = ran + is_run, failed + is_wrong
+    print(f"{ran} ran, {failed} wrong")
+    return failed

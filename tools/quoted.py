@@ -1,17 +1,14 @@
-#!/usr/bin/env python3
-"""Tests what pages quote of the sources, and fails where it does not stand there.
+"""Checks the quotes of sources on pages.
 
-Each block of a page CALLING.md that is marked as rust has to stand word for word in one file of crates/uses/src, which is proved; so a page shows no
-code that was not checked. Each page has to have such a block. Its blocks that are marked as text are contracts of the crate: each function or trait that
-one names is quoted with all its clauses as the sources have them (tools/contracts.py). --write writes these anew; which functions are quoted is the page's.
-What docs/trust.md quotes, its blocks that are marked as text, has to stand so in the sources or the definitions of a crate.
+Each page CALLING.md has a block marked as rust, and each such block has to be in one file of crates/uses/src word for word. These files are proved, so a
+page shows no unchecked code. Its blocks marked as text are contracts of the crate: each function or trait is quoted with all its clauses as the sources
+have them (tools/contracts.py), and these are written anew; the page decides which functions it quotes. The blocks of docs/trust.md marked as text have to
+be in the sources or the definitions of a crate.
 """
 
-import argparse
 import glob
 import os
 import re
-import sys
 
 import contracts
 
@@ -59,7 +56,7 @@ def wrong_contracts(page, text, known):
             if it[1] not in known:
                 found.append(f"{page}: the crate has no {it[1]}")
             elif it[0].splitlines() != known[it[1]]:
-                found.append(f"{page}: {it[1]} has other clauses in the sources: python3 tools/quoted.py --write writes them")
+                found.append(f"{page}: {it[1]} has other clauses in the sources: run python3 tools/docs.py write quoted")
     return found
 
 
@@ -70,23 +67,19 @@ def misquoted():
     return [f"{TRUST}: no source has the block that begins {it.splitlines()[0]!r}" for it in blocks if not any(it in text for text in sources)]
 
 
-def main():
-    words = argparse.ArgumentParser(description=__doc__, formatter_class=argparse.RawDescriptionHelpFormatter)
-    words.add_argument("--write", action="store_true", help="write the contracts of the pages as the sources have them")
-    is_write, callers, found, pages = words.parse_args().write, texts(CALLERS), [], texts(PAGES)
-    for page, text in pages.items():
-        known = contracts.contracts_of(f"{ROOT}/{os.path.dirname(page)}")
-        if is_write:
-            text = with_contracts(text, known)
-            with open(f"{ROOT}/{page}", "w", encoding="utf-8") as it:
-                it.write(text)
-        found += wrongs(page, text, callers) + wrong_contracts(page, text, known)
-    found += misquoted()
-    for it in found:
-        print(it)
-    print(f"{len(pages)} pages: {len(found)} wrong" if found else f"{len(pages)} pages: all that they quote stands in the sources")
-    return 1 if found or not pages else 0
+def known_to(page):
+    return contracts.contracts_of(f"{ROOT}/{os.path.dirname(page)}")
 
 
-if __name__ == "__main__":
-    sys.exit(main())
+def check():
+    """Returns the faults of all quotes, and what holds without any."""
+    callers, pages = texts(CALLERS), texts(PAGES)
+    faults = [it for page, text in pages.items() for it in [*wrongs(page, text, callers), *wrong_contracts(page, text, known_to(page))]]
+    faults += [] if pages else [f"{PAGES}: there is no such page"]
+    return faults + misquoted(), f"{len(pages)} pages CALLING.md and {TRUST} quote the sources"
+
+
+def write():
+    for page, text in texts(PAGES).items():
+        with open(f"{ROOT}/{page}", "w", encoding="utf-8") as it:
+            it.write(with_contracts(text, known_to(page)))

@@ -346,7 +346,7 @@ def words():
     given = parser.parse_args()
     unknown = [it for it in given.parts if it not in PARTS]
     if unknown:
-        parser.error(f"it knows no part {unknown[0]}")
+        parser.error(f"there is no part {unknown[0]}: the parts are {', '.join(PARTS)}")
     given.parts, given.crate = given.parts or [*PARTS], given.crate or [*CRATES]
     return given
 

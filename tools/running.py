@@ -59,7 +59,7 @@ def dialogues(folders):
         for folder, _, names in sorted(os.walk(top)):
             found += [dialogue(os.path.join(folder, name)) for name in sorted(names) if name.endswith(".in")]
     if not found:
-        sys.exit("no dialogue is there")
+        sys.exit(f"there is no dialogue (NAME.in) below {' or '.join(folders or [DIALOGUES])}")
     return found
 
 

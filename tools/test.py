@@ -1,6 +1,6 @@
 #!/usr/bin/env python3
-"""Tests tools/setup, tools/gathered.py, tools/beside.py, tools/progress.py, tools/printed.py, tools/rows.py, tools/commands.py, tools/quoted.py and how many
-threads a proof gets, where nothing is installed, built or proved: apt is a script that notes how it was called."""
+"""Tests tools/setup, tools/gathered.py, tools/beside.py, tools/progress.py, tools/docs.py with its parts, tools/rows.py and the number of threads of a proof.
+Nothing is installed, built or proved: apt is a script that notes how it was called."""
 import glob
 import importlib.machinery
 import importlib.util
@@ -14,19 +14,27 @@ import threading
 import time
 import types
 import unittest
+from contextlib import redirect_stdout
+from unittest import mock
 
 sys.dont_write_bytecode = True
 HERE = os.path.dirname(os.path.realpath(__file__))
 sys.path.insert(0, HERE)
 import beside
+import charts
 import commands
 import contracts
+import docs
 import gate
 import gathered
+import layers
+import links
 import printed
 import progress
+import promises
 import quoted
 import start
+import words
 
 APT = '#!/bin/sh\necho "$0 $@" >>{log}\nexit {status}\n'
 
@@ -146,6 +154,75 @@ class Pages(unittest.TestCase):
         self.assertLessEqual(sum(words.values()), 27000)
 
 
+    def said(self, *given):
+        """Returns the status of tools/docs.py with these words, and its lines."""
+        out = io.StringIO()
+        with mock.patch.object(sys, "argv", ["docs.py", *given]), redirect_stdout(out):
+            return docs.main(), out.getvalue().splitlines()
+
+    def test_every_part_passes(self):
+        status, lines = self.said("check")
+        self.assertEqual((status, [it.partition(":")[0] for it in lines]), (0, [*docs.PARTS]))
+
+    def test_a_fault_is_reported_and_fails(self):
+        with mock.patch.object(links, "check", lambda: (["docs/costs.md:3: a fault"], "all is there")):
+            self.assertEqual(self.said("check", "links"), (1, ["docs/costs.md:3: a fault", "links: 1 wrong"]))
+
+    def test_only_parts_out_of_date_are_written_unless_named(self):
+        written = []
+        for name, (module, _) in docs.PARTS.items():
+            faults = ["a fault"] if name == "commands" else []
+            for its, found in (("check", lambda faults=faults: (faults, "passes")), ("write", lambda name=name: written.append(name))):
+                if hasattr(module, its):
+                    patched = mock.patch.object(module, its, found)
+                    patched.start()
+                    self.addCleanup(patched.stop)
+        self.assertEqual(self.said("write")[0], 1)
+        self.assertEqual(written, ["commands"])
+        self.assertEqual(self.said("write", "layers", "quoted"), (0, ["layers: passes", "quoted: passes"]))
+        self.assertEqual(written, ["commands", "layers", "quoted"])
+
+    def test_an_unknown_part_is_refused(self):
+        for given, known in ((("check", "costs"), "layers, links"), (("write", "links"), "layers, commands")):
+            with mock.patch.object(sys, "stderr", io.StringIO()) as err, self.assertRaises(SystemExit):
+                self.said(*given)
+            self.assertIn(f"{given[0]} has no part {given[1]}: it knows {known}", err.getvalue())
+
+    def test_a_fault_of_a_page_has_its_line(self):
+        with tempfile.TemporaryDirectory() as top:
+            with open(f"{top}/page.md", "w", encoding="utf-8") as file:
+                file.write("# A\n\n```sh\nwhat is\n```\n\n- One.\n- It shows what is lent, [there](none.md).\n\n" + "word " * 36 + "\n")
+            with mock.patch.object(words, "ROOT", top), mock.patch.object(links, "ROOT", top):
+                found = [*words.faults_of_page("page.md"), *links.wrongs("page.md", set(), set())]
+        self.assertEqual([it.partition(" ")[0] for it in found], ["page.md:8:", "page.md:10:", "page.md:8:"])
+
+    def test_the_picture_of_the_layers_has_each_crate_and_its_words(self):
+        self.assertEqual(layers.check()[0], [])
+        with mock.patch.dict(layers.SAYS, {"dom_c": "other words"}):
+            self.assertIn("it has other words for dom_c than SAYS of tools/layers.py: run python3 tools/docs.py write layers", layers.check()[0][0])
+
+
+class Charts(unittest.TestCase):
+    PAGE = "# A page\n\n## Lines\n\n| scene | ours | theirs |\n|---|---|---|\n| one & two | 1,200 | 40 |\n| `three` | 7 | 900 |\n\n## Else\n\nOf 83,000 and 2.9.14\n"
+
+    def test_a_bar_for_each_number(self):
+        found = charts.drawn(charts.Chart("a.svg", "A title", "Lines"), self.PAGE)
+        self.assertEqual(charts.table_of(self.PAGE, "Lines"), (["ours", "theirs"], [("one & two", [1200, 40]), ("three", [7, 900])]))
+        self.assertIn('aria-label="A title. one &amp; two: ours 1,200, theirs 40; three: ours 7, theirs 900"', found)
+        widths = {it.partition('"')[0] for it in found.split(' width="')[1:] if "height=\"11\"" in it}
+        self.assertEqual(len(widths), 4)
+        self.assertRaisesRegex(ValueError, "there is no table below 'Words'", charts.table_of, self.PAGE, "Words")
+
+    def test_the_grid_has_at_most_six_lines(self):
+        for most in (10, 99, 2499, 2500, 5171, 838000, 999999, 1000000):
+            self.assertIn(most // charts.step_of(most), range(2, 6), most)
+
+    def test_a_figure_that_the_page_lacks_is_reported(self):
+        readme = "# A page\n\n## Beside others\n\nIt makes 83,000, libxml2 2.9 3,000 ([a page](docs/costs9.md)), 83,000.\n\n## Else 5\n"
+        self.assertEqual(charts.unknown_figures(readme, self.PAGE), ["3,000"])
+        self.assertRaisesRegex(ValueError, "README.md: there are no figures below 'Beside others'", charts.unknown_figures, "# A page\n", self.PAGE)
+
+
 class Threads(unittest.TestCase):
     """How many threads a proof gets, of four processors."""
 
@@ -247,6 +324,26 @@ class Quoted(unittest.TestCase):
             self.assertIn("fn Units::slice has other clauses", "\n".join(quoted.wrong_contracts(page, changed, known)))
             self.assertEqual(quoted.with_contracts(changed, known), text)
         self.assertIn("the crate has no fn Units::cut", "\n".join(quoted.wrong_contracts(page, text.replace("fn Units::slice(", "fn Units::cut("), known)))
+
+
+class Promises(unittest.TestCase):
+    """The clauses of docs/proved.md, of which some are changed."""
+
+    CHANGED = (
+        ("`delete_contents`: `left`;", "`delete_contents`: `lefts`;", "delete_contents has no clause lefts"),
+        ("`range_text`: `between`;", "`range_texts`: `between`;", "there is no call or clause range_texts"),
+        ("`run`: `passed`, `writer`", "`run`: `passed`, `labelled`", "run has no clause labelled"),
+        ("each edit: `kept`, `markers`;", "each edit: `kept`, `marked`;", "the crate has no clause marked"),
+    )
+
+    def test_a_changed_clause_is_reported_at_its_line(self):
+        text = promises.text_of_page()
+        self.assertEqual([*promises.faults(text)], [])
+        for old, new, told in self.CHANGED:
+            with self.subTest(new):
+                self.assertEqual(text.count(old), 1)
+                line = text.count("\n", 0, text.index(old)) + 1
+                self.assertEqual([*promises.faults(text.replace(old, new))], [f"docs/proved.md:{line}: {told}"])
 
 
 class Printed(unittest.TestCase):

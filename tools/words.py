@@ -1,14 +1,11 @@
-#!/usr/bin/env python3
 """Checks the words of pages and doc comments against the rules of docs/writing.md.
 
 It reports words that the page's list replaces, sentences of more than 35 words, and doc comments whose first line does not begin with a verb in the
-third person. COVERED names the files that have to pass; --all checks every page and source, and reports without failing.
+third person. COVERED names the files that have to pass.
 """
-import argparse
 import glob
 import os
 import re
-import sys
 
 from start import ROOT
 
@@ -32,6 +29,8 @@ AVOIDED = re.compile(
 # Beginnings of sentences in which such words are right, each with the reason.
 ALLOWED = {}
 MOST_WORDS = 35
+# Ends a paragraph, a list item or a row of a table.
+PARTED = re.compile(r"\n\s*\n|\n(?=\s*(?:[-*|]|\d+\.) )")
 FENCED = re.compile(r"^```.*?^```\n|^ {4}[^\n]*\n", re.M | re.S)
 MARKS = re.compile(r"`[^`]*`|\]\([^)]*\)|[*_\[\]]")
 SENTENCE = re.compile(r"(?<=[.!?:])\s+(?=[\"A-Z`*\[])")
@@ -40,24 +39,29 @@ VERB = re.compile(r"^(?:\W*)[A-Z]\w*(?:s|es)\b")
 
 
 def prose_of(text):
-    """Yields the paragraphs, list items and table cells of a page, without code."""
-    for line in re.split(r"\n\s*\n|\n(?=\s*(?:[-*|]|\d+\.) )", FENCED.sub("", text)):
-        for cell in line.split("|") if line.lstrip().startswith("|") else [line]:
-            yield " ".join(MARKS.sub(lambda it: "X" if it[0].startswith("`") else "", cell).split())
+    """Yields the paragraphs, list items and table cells of a page, without code, each with the number of its line."""
+    text, at = FENCED.sub(lambda it: "\n" * it[0].count("\n"), text), 0
+    for found in [*PARTED.finditer(text), None]:
+        part = text[at : found.start() if found else len(text)]
+        line = text.count("\n", 0, at + len(part) - len(part.lstrip())) + 1
+        for cell in part.split("|") if part.lstrip().startswith("|") else [part]:
+            yield line, " ".join(MARKS.sub(lambda it: "X" if it[0].startswith("`") else "", cell).split())
+        at = found.end() if found else at
 
 
 def faults_of_page(path):
+    """Yields the faults of a page, each at the line where its paragraph, item or row begins."""
     with open(f"{ROOT}/{path}", encoding="utf-8") as file:
         text = file.read()
-    for part in prose_of(text):
+    for line, part in prose_of(text):
         for sentence in SENTENCE.split(part):
             if any(sentence.startswith(it) for it in ALLOWED):
                 continue
             found = AVOIDED.search(sentence) if path != LISTING else None
             if found:
-                yield f"{path}: '{found[0]}' in: {sentence[:90]}"
+                yield f"{path}:{line}: '{found[0]}' in: {sentence[:90]}"
             if len(sentence.split()) > MOST_WORDS:
-                yield f"{path}: {len(sentence.split())} words in one sentence: {sentence[:90]}"
+                yield f"{path}:{line}: {len(sentence.split())} words in one sentence: {sentence[:90]}"
 
 
 def faults_of_source(path):
@@ -82,17 +86,8 @@ def files_of(patterns):
     return sorted(it for it in found if "/out/" not in it)
 
 
-def main():
-    words = argparse.ArgumentParser(description=__doc__, formatter_class=argparse.RawDescriptionHelpFormatter)
-    words.add_argument("--all", action="store_true", help="check every page and source, and only report")
-    given = words.parse_args()
-    files = files_of(["README.md", "docs/*.md", "crates/*/*.md", "crates/*/src/**/*.rt"] if given.all else COVERED)
+def check():
+    """Returns the faults of all files, and what holds without any."""
+    files = files_of(COVERED)
     faults = [it for path in files for it in (faults_of_source(path) if path.endswith(".rt") else faults_of_page(path))]
-    for it in faults:
-        print(it)
-    print(f"{len(files)} files: {f'{len(faults)} faults' if faults else 'in the words of docs/writing.md'}")
-    return 1 if faults and not given.all else 0
-
-
-if __name__ == "__main__":
-    sys.exit(main())
+    return faults, f"{len(files)} files are in the words of {LISTING}"

@@ -284,7 +284,7 @@ def main():
     given = parser.parse_args()
     unknown = [it for it in given.only if it not in PARTS]
     if unknown or given.step < 1:
-        parser.error(f"the parts are {', '.join(PARTS)}, and a step is at least 1")
+        parser.error(f"there is no part {unknown[0]}: the parts are {', '.join(PARTS)}" if unknown else f"--step has to be at least 1, not {given.step}")
     if not shutil.which(given.compiler):
         print(f"left out: all of it, since there is no {given.compiler}")
         return 0

@@ -64,9 +64,9 @@ def made(given):
     if given.module is None:
         print(f"making the module: {'that is asked for' if given.prove else why_made()}", file=sys.stderr, flush=True)
         if subprocess.run([sys.executable, os.path.join(WEB, "make.py")], check=False).returncode:
-            sys.exit("the module was not made")
+            sys.exit("the WebAssembly module was not built: bindings/web/make.py says above why")
     if not has_module(folder):
-        sys.exit(f"{folder} lacks {' or '.join(FILES)}")
+        sys.exit(f"{folder} has no {' or no '.join(FILES)}: --module names a folder that has both")
     return [content(os.path.join(folder, it)) for it in FILES]
 
 

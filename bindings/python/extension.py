@@ -314,7 +314,7 @@ def make_library(given):
     """Makes the library for C, where it is missing or is to be proved first."""
     script = [sys.executable, os.path.join(ROOT, "bindings/c/make.py"), *(["--prove"] if given.prove else [])]
     if given.library == LIBRARY and (given.prove or not os.path.exists(os.path.join(LIBRARY, "libhuckleport.a"))) and subprocess.run(script).returncode:
-        sys.exit("the library for C was not made")
+        sys.exit("the library for C was not built: bindings/c/make.py says above why")
 
 
 def build(given):
@@ -324,12 +324,12 @@ def build(given):
     if missing and given.where_possible:
         return print(f"left out: the extension module, since {missing}")
     if missing:
-        sys.exit(f"the extension module can't be built: {missing}")
+        sys.exit(f"the extension module cannot be built: {missing}")
     words = [given.compiler, "-std=c99", "-O3", "-fPIC", "-shared", "-Wall", "-Wextra", "-Wno-missing-field-initializers", "-fvisibility=hidden"]
     words += [f"-I{sysconfig.get_path('include')}", f"-I{given.library}", f"-I{CORE}", os.path.join(CORE, "core.c")]
     words += [os.path.join(given.library, "libhuckleport.a"), "-Wl,--exclude-libs,ALL", "-Wl,-z,noexecstack", *WRAPS]
     if subprocess.run([*words, "-o", given.to + ".new"]).returncode:
-        sys.exit("the extension module was not built")
+        sys.exit(f"the extension module was not built: {given.compiler} says above why")
     os.replace(given.to + ".new", given.to)
     return print(given.to)
 

@@ -216,7 +216,7 @@ def main():
         return
     with open(TO, encoding="utf-8") as file:
         if file.read() != text:
-            sys.exit("src/ffi.rs says something else than the exports: run bindings/rust/declare.py")
+            sys.exit("bindings/rust/src/ffi.rs is not what the exports give: run python3 bindings/rust/declare.py")
 
 
 if __name__ == "__main__":

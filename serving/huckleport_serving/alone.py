@@ -152,10 +152,10 @@ class Alone:
             why = self._process.wait()
             if why != -signal.SIGPROF:
                 raise Killed(f"its process ended with status {why}")
-            raise Unanswered("out of time as it was replayed")
+            raise Unanswered("its replay was stopped: it took more processor time than its bound")
         (found,) = LENGTH.unpack_from(self._read, 0)
         if found == SHORT:
-            raise Unanswered("out of memory as it was replayed")
+            raise Unanswered("its replay ran out of memory")
         return None if found == SAME else int(found)
 
     def close(self) -> None:

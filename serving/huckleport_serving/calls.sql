@@ -217,7 +217,7 @@ begin
 end $$;
 
 -- Refuses lines while more of them wait than the settings allow. To count them takes as long as they are many. So they are counted once for a
--- 64th of a limit that was handed in, and those of a client over all documents once for a 16th. Small limits are exact.
+-- 64th of a limit that was handed in, and those of a client over all documents once for a 16th, on average. Small limits are exact.
 create function huckleport.check_waiting(document bigint, client uuid) returns void language plpgsql as $$
 declare
     most record;
@@ -241,11 +241,10 @@ begin
     end if;
 end $$;
 
--- Whether lines that were put are to be counted: if the ids of all lines passed a multiple of a part of the limit, or if their bytes are such
--- a part. Limits below 1,000 lines or 1 MiB are checked each time.
-create function huckleport.is_due(lines bigint, bytes bigint, parts int, put int, put_bytes bigint, last_id bigint) returns boolean language sql immutable as $$
-    select lines < 1000 or bytes < 1048576 or put_bytes >= bytes / parts
-        or last_id / greatest(1, lines / parts) <> (last_id - put) / greatest(1, lines / parts)
+-- Whether lines that were put are to be counted. It is drawn, by the part of the limit that they are, so no order of large and small lines of
+-- several clients passes uncounted. Limits below 1,000 lines or 1 MiB are checked each time.
+create function huckleport.is_due(lines bigint, bytes bigint, parts int, put int, put_bytes bigint) returns boolean language sql volatile as $$
+    select lines < 1000 or bytes < 1048576 or random() < parts * greatest(put / lines::float, put_bytes / bytes::float)
 $$;
 
 -- Hands lines in, as the requests `first`, `first` + 1 and so on of that client. A request that waits or was answered stays as it is if it is
@@ -276,11 +275,11 @@ begin
             where c.document = submit.document and c.client = submit.client and c.last_request >= submit.first) then
         perform huckleport.check_same(document, client, first, last, most.bytes, lines);
     end if;
-    -- (the last id is that of these lines; their size with that of the array is not below theirs)
-    if put > 0 and huckleport.is_due(most.document_lines, most.document_bytes, 64, put, pg_column_size(lines), lastval()) then
+    -- (their size with that of the array is not below theirs)
+    if put > 0 and huckleport.is_due(most.document_lines, most.document_bytes, 64, put, pg_column_size(lines)) then
         perform huckleport.check_waiting(document, null);
     end if;
-    if put > 0 and huckleport.is_due(most.client_lines, most.client_bytes, 16, put, pg_column_size(lines), lastval()) then
+    if put > 0 and huckleport.is_due(most.client_lines, most.client_bytes, 16, put, pg_column_size(lines)) then
         perform huckleport.check_waiting(null, client);
     end if;
     perform pg_notify('huckleport_requests', submit.document::text);

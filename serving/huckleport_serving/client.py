@@ -74,7 +74,7 @@ class Client:
             self._documents[name] = self._opened(name, numbers, line)
         found = self._documents[name]
         if (numbers or found.numbers, line or found.line) != (found.numbers, found.line):
-            raise OtherLimits(f"{escaped(name)} has {found.numbers} numbers and lines of {found.line} bytes")
+            raise OtherLimits(f"{escaped(name)} has {found.numbers} numbers and lines of {found.line} bytes, not {numbers or found.numbers} and {line or found.line}")
         return found
 
     def _opened(self, name: str, numbers: Optional[int], line: Optional[int]) -> Document:
@@ -144,7 +144,7 @@ class Document:
         if request is None:
             return [self.reply(it, timeout) for it in self.post(given, timeout)]
         if request < 1:
-            raise ValueError(f"request {request} is below 1")
+            raise ValueError(f"the request {request} is below 1, the first number")
         self._waiting.clear()
         self._answers.clear()
         following, self._next = self._next, request
@@ -164,8 +164,9 @@ class Document:
         Raises `DocumentFull` or `ClientFull` if there is no room for them within the time limit.
         """
         first, at = self._next, 0
-        if any(b"\n" in it for it in lines):
-            raise ValueError("a line has a newline in it")
+        broken = next((it for it in lines if b"\n" in it), None)
+        if broken is not None:
+            raise ValueError(f"a line has a newline in it: {broken[:40]!r}")
         # (a longer line is refused by its first byte too many, so the others need not be sent)
         given = [it[: self.line + 1] for it in lines]
         until = self._until(timeout)
@@ -204,11 +205,11 @@ class Document:
         until = self._until(timeout)
         while request not in self._answers:
             if request not in self._waiting:
-                raise KeyError(f"request {request} was not handed in, or its reply was taken")
+                raise KeyError(f"the request {request} was not handed in, or its reply was taken")
             if self._read(until):
                 until = self._until(timeout)
             elif time.monotonic() > until:
-                raise NotAnswered(f"{escaped(self.name)}: request {request} of {self.client.id} was not answered")
+                raise NotAnswered(f"{escaped(self.name)}: request {request} of client {self.client.id} was not answered in time: it may be later")
             else:
                 self._wait(until)
         return self._answers.pop(request)
@@ -235,7 +236,7 @@ class Document:
             if not self._read(until):
                 self._wait(until)
             if time.monotonic() > until:
-                raise NotAnswered(f"{escaped(self.name)}: {len(self._waiting)} requests of {self.client.id} were not answered")
+                raise NotAnswered(f"{escaped(self.name)}: {len(self._waiting)} requests of client {self.client.id} were not answered in time: they may be later")
 
     def _read(self, until: float) -> int:
         """Reads the replies that are there, and returns how many came."""

@@ -383,7 +383,7 @@ def parser() -> argparse.ArgumentParser:
     found.add_argument("--version", action="version", version=f"%(prog)s {__version__}")
     words = "libpq's words for a connection, as 'host=db1,db2 dbname=letters'; once for each of a list of databases (what PGHOST and the like say)"
     found.add_argument("--database", action="append", metavar="WORDS", help=words)
-    found.add_argument("--log", default="info", choices=("debug", "info", "warning"), help="what is told on standard error (info)")
+    found.add_argument("--log", default="info", choices=("debug", "info", "warning"), help="the least level of messages on standard error (info)")
     found.add_argument("--log-format", default="text", choices=("text", "json"), help="a line of text, or an object of JSON, for each message (text)")
     parts = found.add_subparsers(dest="part", metavar="COMMAND", required=True)
     for name, (_, add, about) in PARTS.items():

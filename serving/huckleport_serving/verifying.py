@@ -54,7 +54,7 @@ class ByProgram:
             found = [self._process.stdout.readline()[:-1] for _ in lines]
             writer.wait()
         if len(found) != len(lines) or b"" in found:
-            raise Unanswered("the program ended")
+            raise Unanswered("the program ended before it had replied to all lines")
         return found
 
     def close(self) -> None:

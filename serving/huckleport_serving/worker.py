@@ -52,6 +52,9 @@ TURN = 0.2
 SUSPECT = 3
 """A document that was claimed so many times without a line of it recorded is given a process of its own."""
 
+SHARE = 5.0
+"""How long a document has its process to itself before another heavy document may get the place, in seconds."""
+
 MOST_DEATHS = 2
 """How often a document's process is made anew after something else has killed it, without a line answered."""
 
@@ -100,6 +103,9 @@ class Held:
     lines: List[bytes] = field(default_factory=list)
     replayed: int = 0
     deaths: int = 0
+    # Since when its process has the whole document, and whether it is given no more lines, since another one is to have its place.
+    whole_since: float = 0.0
+    is_leaving: bool = False
 
     @property
     def is_busy(self) -> bool:
@@ -231,7 +237,7 @@ class Tenure:
 
     def _is_ready(self, document: int) -> bool:
         held = self.held[document]
-        return held.is_whole and not held.is_busy
+        return held.is_whole and not held.is_busy and not held.is_leaving
 
     def _serve(self) -> bool:
         """Takes lines that wait for some documents, and answers and records them."""
@@ -337,7 +343,7 @@ class Tenure:
         if is_over and held.alone.memory < self.memory:
             # (a worker with more memory may answer it)
             if len(replies) == 1:
-                raise Unanswered("more memory than this worker may take")
+                raise Unanswered(f"it needs more than the {held.alone.memory} bytes of memory that this worker may take (--memory)")
             del replies[-1]
         if is_over:
             log.warning("document %d: request refused by %s", held.document, replies[-1].decode())
@@ -388,7 +394,7 @@ class Tenure:
     def _move(self, held: Held) -> None:
         """Has a document replayed in a process of its own, which is made when there is room for it."""
         held.close()
-        held.last, held.size, held.is_whole, held.is_heavy = 0, 0, False, True
+        held.last, held.size, held.is_whole, held.is_heavy, held.is_leaving = 0, 0, False, True, False
         self.loading[held.document] = self.apart[held.document] = held
 
     def _replay_alone(self) -> bool:
@@ -411,13 +417,21 @@ class Tenure:
             self._give_up(held, f"out of memory for a process: {fault}")
 
     def _has_process(self) -> bool:
-        """Returns whether there is room for a process. If there is none, the document goes whose process was idle longest, if only for a second."""
+        """Returns whether there is room for a process. If there is none, the document goes whose process was idle longest, if only for a second.
+        If all are at work, the document that has had its process longest is given no more lines, and goes when it is not busy.
+        """
         alone = [it for it in self.apart.values() if it.alone is not None]
         if len(alone) < self.bounds.processes:
             return True
-        idle = [it for it in alone if it.is_whole and not it.is_busy and it.document not in self.due and it.used < time.monotonic() - 1.0]
+        now = time.monotonic()
+        free = [it for it in alone if it.is_whole and not it.is_busy]
+        idle = [it for it in free if it.is_leaving or (it.document not in self.due and it.used < now - 1.0)]
         if idle:
             self._let_go([min(idle, key=lambda it: it.used)])
+        elif not any(it.is_leaving for it in alone):
+            shared = [it for it in alone if it.is_whole and it.whole_since < now - SHARE]
+            if shared:
+                min(shared, key=lambda it: it.whole_since).is_leaving = True
         return bool(idle)
 
     def _replay_piece_alone(self, held: Held, alone: Alone) -> None:
@@ -487,7 +501,7 @@ class Tenure:
 
     def _is_loaded(self, held: Held) -> None:
         """Notes that a document's world has seen its whole log, so its lines are answered."""
-        held.is_whole = True
+        held.is_whole, held.whole_since = True, time.monotonic()
         self.loading.pop(held.document, None)
         self.due[held.document] = None
 

@@ -11,7 +11,7 @@ import subprocess
 import sys
 import tempfile
 from dataclasses import dataclass, field
-from typing import Any, Dict, List, Optional
+from typing import Any, Dict, List, Optional, Tuple
 
 HERE = os.path.dirname(os.path.dirname(os.path.abspath(__file__)))
 ROOT = os.path.dirname(HERE)
@@ -34,6 +34,25 @@ def replies_of(given: List[bytes], *words: str) -> List[bytes]:
 def told(text: str) -> None:
     """What a test measured, for whoever reads along."""
     print(f"   {text}", flush=True)
+
+
+class Idle:
+    """Tells how idle this machine's processors were meanwhile. A bound of seconds holds on a quiet machine, and other tests may run beside."""
+
+    def __init__(self) -> None:
+        self._before = self._read()
+
+    @staticmethod
+    def _read() -> Tuple[int, int]:
+        with open("/proc/stat", encoding="ascii") as file:
+            found = [int(it) for it in file.readline().split()[1:9]]
+        return found[3] + found[4], sum(found)
+
+    def is_quiet(self, busy: int) -> bool:
+        """Returns whether all processors but so many were idle, nearly always."""
+        idle, total = (now - then for now, then in zip(self._read(), self._before))
+        count = os.cpu_count() or 1
+        return count > busy and idle > 0.8 * total * (count - busy) / count
 
 
 @functools.lru_cache(maxsize=None)

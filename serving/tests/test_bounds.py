@@ -2,19 +2,23 @@
 
 from __future__ import annotations
 
+import itertools
 import os
 import subprocess
 import tempfile
 import time
 import unittest
-from typing import Any, List
+from typing import Any, List, Optional, Tuple
 
+import psycopg
 from lines import lines
 from place import replies_of
 from test_documents import Served
 
-from huckleport_serving import ClientFull, DocumentFull, TooManyClients, connect
+from huckleport_serving import ClientFull, DocumentFull, Refused, TooManyClients, connect
+from huckleport_serving.client import SUBMIT
 from huckleport_serving.commands import chunks
+from huckleport_serving.refusals import refusal
 
 try:
     from huckleport_serving.pool import Pool
@@ -122,6 +126,31 @@ class Waits(Served):
             self.client.document("of a client b").post([ELEMENT], timeout=0)
         self.connected().document("of a client b").post([ELEMENT] * 10)
         self.goes_on("of a client a", [b'{"ok":%d}' % it for it in range(1, 6)])
+
+    def taken(self, documents: int, line: bytes) -> Tuple[int, Optional[Refused]]:
+        """Hands lines in one at a time, to documents by turns, until one is refused. Returns how many were taken, and the refusal."""
+        ids = [self.client.document(f"by turns {documents} {at} {len(line)}").id for at in range(documents)]
+        for count in itertools.count():
+            try:
+                self.connection.execute(SUBMIT, (ids[count % documents], self.client.id, count + 1, [line]))
+            except psycopg.DatabaseError as fault:
+                return count, refusal(fault)
+        raise AssertionError
+
+    def test_large_limits_are_told_near_the_bound(self) -> None:
+        """They are counted now and then, so more than the limit may wait; but never less, and never twice as much."""
+        large = b"x" * 60_000
+        for documents, limit, line, due, bound in (
+            (1, {"document_bytes": 4 << 20}, large, DocumentFull, (4 << 20) // len(large)),
+            (5, {"document_bytes": "default", "client_bytes": 8 << 20}, large, ClientFull, (8 << 20) // len(large)),
+            (1, {"document_lines": 1000}, ELEMENT, DocumentFull, 1000),
+        ):
+            with self.subTest(limit):
+                self.limited(**limit)
+                count, found = self.taken(documents, line)
+                self.assertIsInstance(found, due)
+                self.assertTrue(bound <= count < 2 * bound, (bound, count))
+                self.connection.execute("delete from huckleport.requests")
 
     def test_room_is_waited_for(self) -> None:
         self.limited(document_lines=10)

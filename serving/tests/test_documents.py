@@ -294,7 +294,7 @@ class Workers(Served):
         self.wait_until("select fault like '%%memory%%' from huckleport.documents where id = %s", document.id)
         self.assertEqual(self.row("select count(*) from huckleport.lines where reply like '%%out-of-memory%%'"), (0,))
         self.work("--memory", "2000")
-        replies = document.send([text] * 120, request=2, timeout=60)
+        replies = document.send([text] * 120, request=2, timeout=300)
         self.assertEqual(replies, [b'{"ok":%d}' % it for it in range(2, 122)])
         self.assertEqual(self.row("select fault from huckleport.documents where id = %s", document.id), (None,))
 

@@ -135,15 +135,50 @@ class Apart(Served):
         self.assertEqual([document.reply(it) for it in requests[1:]], [b'{"error":"no-such-object"}', b'{"ok":1}'])
         self.assertEqual([it.reply for it in document.follow(timeout=0.1)], [b'{"error":"dropped"}', b'{"error":"no-such-object"}', b'{"ok":1}'])
 
+    def children(self) -> List[int]:
+        """Returns the processes of the worker that have not ended."""
+        (worker,) = self.place.workers
+        found = subprocess.run(["ps", "--ppid", str(worker.pid), "-o", "pid=,stat="], stdout=subprocess.PIPE, check=False).stdout.decode()
+        return [int(it.split()[0]) for it in found.splitlines() if it.split()[1][0] != "Z"]
+
+    def test_more_heavy_documents_than_processes(self) -> None:
+        """One process for three documents, of which one has lines without an end. The others get their turns."""
+        self.place.work(1, "--processes", "1")
+        for at in range(3):
+            self.client.document(f"heavy {at}").send(doubling(19), timeout=300)
+            self.assertTrue(self.children())
+        ended = threading.Event()
+        sending = threading.Thread(target=self.send_until, args=("heavy 0", ended))
+        sending.start()
+        try:
+            for _ in range(2):
+                for at in (1, 2):
+                    self.assertEqual(self.client.document(f"heavy {at}").ask(b'["length",0]', timeout=120), b'{"ok":1}')
+            # (one that was killed is there until its memory is given back)
+            until = time.monotonic() + 60
+            while len(self.children()) > 1:
+                self.assertLess(time.monotonic(), until)
+                time.sleep(0.05)
+        finally:
+            ended.set()
+            sending.join()
+
+    def send_until(self, name: str, ended: threading.Event) -> None:
+        with connect(self.place.conninfo, timeout=300) as client:
+            document = client.document(name)
+            posted = [document.post([b'["length",0]'] * 500)]
+            while not ended.is_set():
+                posted.append(document.post([b'["length",0]'] * 500))
+                for it in posted.pop(0):
+                    document.reply(it)
+
     def test_its_process_may_be_killed(self) -> None:
         """A heavy document's process that is killed is replaced, and its lines are answered."""
         self.place.work(1)
         document = self.client.document("heavy")
         document.send(doubling(19), timeout=300)
-        (worker,) = self.place.workers
-        children = subprocess.run(["ps", "--ppid", str(worker.pid), "-o", "pid="], stdout=subprocess.PIPE, check=True).stdout.split()
-        self.assertEqual(len(children), 1)
-        os.kill(int(children[0]), 9)
+        (child,) = self.children()
+        os.kill(child, 9)
         given = [it for it in lines("heavy", 30) if b"createRange" in it or b"Attribute" in it]
         self.assertEqual(len(document.send(given, timeout=300)), len(given))
         self.assertEqual(document.ask(b'["length",0]', timeout=120), b'{"ok":1}')

@@ -9,6 +9,7 @@ import re
 import shutil
 import signal
 import subprocess
+import sys
 import time
 import unittest
 import urllib.error
@@ -18,7 +19,7 @@ from typing import Any, Dict, List, Tuple
 
 import psycopg
 from lines import changes, lines
-from place import HERE, ROOT, SMALL, Place, replies_of, told
+from place import HERE, ROOT, SMALL, Idle, Place, replies_of, told
 from test_documents import Served, dialogues, lines_of
 
 from huckleport_serving import connect, create_tables
@@ -28,6 +29,10 @@ from huckleport_serving.worlds import PROGRAM as VERSION
 from huckleport_serving.worlds import World
 
 ELEMENT = b'["createElement",0,"p"]'
+WHOLE = bool(os.environ.get("HUCKLEPORT_WHOLE"))
+OLDER = "import sys, huckleport; huckleport.__version__ = '0.0.0'; from huckleport_serving.commands import main; sys.exit(main(sys.argv[1:]))"
+"""The commands with a program that says it is an older one."""
+
 TABLES = os.path.join(os.path.dirname(os.path.abspath(__file__)), "schema_1.sql")
 
 
@@ -163,6 +168,44 @@ class Operations(Served):
         self.assertEqual(self.row("select version, fault from huckleport.documents where id = %s", wrong.id), ("0.0.0", "line 1 has another reply when it is replayed"))
         self.assertEqual(self.row("select version, fault from huckleport.documents where id = %s", document.id), (VERSION, None))
 
+    def work_as_older(self, *words: str) -> subprocess.Popen[bytes]:
+        given = [sys.executable, "-c", OLDER, "--log", "warning", "--database", self.place.conninfo, "worker", *words]
+        self.place.workers.append(subprocess.Popen(given, env=self.place.environment()))
+        return self.place.workers[-1]
+
+    def version(self, document: Any) -> str:
+        return str(self.row("select version from huckleport.documents where id = %s", document.id)[0])
+
+    def test_workers_of_two_versions(self) -> None:
+        """The old worker answers its documents beside the new one, also those that it has to claim again. Once it is gone, the new worker adopts each
+        document for which a line comes, and no other. An old worker that comes later takes none of these.
+        """
+        older = self.work_as_older("--idle", "0.5")
+        olds = [self.client.document(f"old {it}") for it in range(5)]
+        for it in olds:
+            self.assertEqual(it.ask(ELEMENT), b'{"ok":1}')
+        self.assertEqual({self.version(it) for it in olds}, {"0.0.0"})
+        self.work()
+        self.wait_until("select count(*) = 2 from huckleport.workers where huckleport.is_running(until, lease)")
+        self.wait_until("select bool_and(owner is null) from huckleport.documents")
+        for it in olds:
+            self.assertEqual(it.ask(ELEMENT), b'{"ok":2}')
+        self.assertEqual({self.version(it) for it in olds}, {"0.0.0"})
+        news = [self.client.document(f"new {it}") for it in range(5)]
+        for number in (1, 2):
+            self.assertEqual([it.ask(ELEMENT) for it in news], [b'{"ok":%d}' % number] * 5)
+        self.assertEqual(self.ran("status")[0], 0)
+        older.terminate()
+        self.assertEqual(older.wait(60), 0)
+        for number, it in enumerate(olds[:3]):
+            self.assertEqual(it.ask(ELEMENT), b'{"ok":3}')
+            self.assertEqual([self.version(it) for it in olds], [VERSION] * (number + 1) + ["0.0.0"] * (4 - number))
+        self.work_as_older()
+        self.wait_until("select count(*) = 2 from huckleport.workers where huckleport.is_running(until, lease)")
+        for it in olds:
+            self.assertEqual(it.ask(ELEMENT), b'{"ok":%d}' % (4 if it in olds[:3] else 3))
+        self.assertEqual([self.version(it) for it in olds], [VERSION] * 3 + ["0.0.0"] * 2)
+
     # watching
 
     @unittest.skipUnless(importlib.util.find_spec("prometheus_client"), "there is no prometheus_client (Debian has it as python3-prometheus-client)")
@@ -219,22 +262,29 @@ class Operations(Served):
 
     # reading a long log
 
+    def in_time(self, took: float, most: float, is_quiet: bool) -> str:
+        """Checks how long a whole log took, unless other tests took processors from it. Returns a word about that."""
+        if WHOLE and is_quiet:
+            self.assertLess(took, most)
+        return "" if is_quiet else ", beside other work"
+
     def test_a_long_log_is_followed(self) -> None:
-        count = 1_000_000 if os.environ.get("HUCKLEPORT_WHOLE") else 25_000
+        count = 1_000_000 if WHOLE else 25_000
         document = self.client.document("long")
         words = """insert into huckleport.lines select %s, it, %s, it, convert_to('["createText",0,"' || it || '"]', 'UTF8'), convert_to('{"ok":' || it || '}', 'UTF8')
             from generate_series(1, %s) as it"""
         self.connection.execute(words, (document.id, self.client.id, count))
-        start, seen = time.monotonic(), 0
+        idle, start, seen = Idle(), time.monotonic(), 0
         for seen, it in enumerate(document.follow(timeout=0.05), 1):
             if it != (seen, self.client.id, seen, b'["createText",0,"%d"]' % seen, b'{"ok":%d}' % seen):
                 self.fail(f"{it} is entry {seen}")
         self.assertEqual(seen, count)
-        told(f"{count:,} lines followed in {time.monotonic() - start:.1f} s")
+        took = time.monotonic() - start
+        told(f"{count:,} lines followed in {took:.1f} s{self.in_time(took, 10.0, idle.is_quiet(2))}")
 
     def test_a_long_log_is_taken_over(self) -> None:
-        """A worker replays a long log, of which another one answers for. Other documents are served in between."""
-        count = 1_000_000 if os.environ.get("HUCKLEPORT_WHOLE") else 25_000
+        """A worker replays a long log, and serves another document in between."""
+        count = 1_000_000 if WHOLE else 25_000
         document = self.client.document("long")
         words = """insert into huckleport.lines select %s, it, %s, it, convert_to('["createText",0,"' || it %% 100 || '"]', 'UTF8'), convert_to('{"ok":' || it || '}', 'UTF8')
             from generate_series(1, %s) as it"""
@@ -242,15 +292,16 @@ class Operations(Served):
         worker = self.work()
         other = self.client.document("another")
         other.ask(ELEMENT)
-        before, start = used(worker.pid), time.monotonic()
+        idle, before, start = Idle(), used(worker.pid), time.monotonic()
         requests, waits = document.post([ELEMENT]), []
         while not self.connection.execute("select from huckleport.lines where document = %s and number > %s", (document.id, count)).fetchall():
             asked = time.monotonic()
             other.ask(ELEMENT)
             waits.append(time.monotonic() - asked)
         self.assertEqual(document.reply(requests[0]), b'{"ok":%d}' % (count + 1))
-        took = used(worker.pid) - before
-        told(f"{count:,} lines replayed in {time.monotonic() - start:.1f} s, {took:.1f} s of the worker's processor time; another document waited {max(waits):.2f} s")
+        seconds, took = time.monotonic() - start, used(worker.pid) - before
+        beside = self.in_time(seconds, 3.0, idle.is_quiet(3))
+        told(f"{count:,} lines replayed in {seconds:.1f} s{beside}, {took:.1f} s of the worker's processor time; another document waited {max(waits):.2f} s")
         # (on a quiet machine it is about a third of this)
         self.assertLess(took, 1 + 6e-6 * count)
 

@@ -66,8 +66,38 @@ MAY: Dict[str, Set[str]] = {
     "update huckleport.lines set reply = ''": set(),
     "insert into huckleport.grants values ({other}, 'client')": set(),
     "create table huckleport.pwned ()": set(),
+    "listen huckleport_requests": {"client", "worker", "operator", "stranger"},
 }
 ROLES = ("client", "worker", "operator", "stranger")
+
+# Functions beside those of the table above that a role may call, and all rights on tables, columns and sequences.
+# (An operator also reads each of them.)
+HELPERS = {("operator", it) for it in ("opened", "now", "is_running", "is_operator")}
+RIGHTS = {("client", "settings", "select"), ("worker", "settings", "select"), ("operator", "settings", "update"), ("operator", "documents.version", "update")}
+
+GIVEN_FUNCTIONS = """
+select r.role, p.proname from unnest(%s::text[]) as r (role) cross join pg_proc p
+where p.pronamespace = 'huckleport'::regnamespace and has_function_privilege(r.role, p.oid, 'execute')
+"""
+GIVEN_RIGHTS = """
+with roles as (select * from unnest(%s::text[]) as r (role)),
+    named as (select c.oid, c.relname::text, c.relkind from pg_class c where c.relnamespace = 'huckleport'::regnamespace and c.relkind in ('r', 'v', 'S')),
+    found as (
+        select role, oid, relname, it from roles cross join named
+        cross join unnest(array['select', 'insert', 'update', 'delete', 'truncate', 'references', 'trigger']) as it
+        where relkind <> 'S' and has_table_privilege(role, oid, it))
+select role, relname, it from found
+union all
+select role, relname, it from roles cross join named cross join unnest(array['select', 'update', 'usage']) as it
+where relkind = 'S' and has_sequence_privilege(role, oid, it)
+union all
+select role, relname || '.' || attname, it from roles cross join named join pg_attribute a on a.attrelid = oid and a.attnum > 0 and not a.attisdropped
+cross join unnest(array['select', 'insert', 'update', 'references']) as it
+where relkind <> 'S' and has_column_privilege(role, oid, a.attnum, it)
+    and not exists (select from found where found.role = roles.role and found.oid = named.oid and found.it = it.it)
+union all
+select role, 'huckleport', 'create' from roles where has_schema_privilege(role, 'huckleport', 'create')
+"""
 
 
 class Roles(Served):
@@ -106,6 +136,15 @@ class Roles(Served):
         words = "select proname from pg_proc where pronamespace = 'huckleport'::regnamespace and prosecdef"
         named = {it.partition("huckleport.")[2].partition("(")[0] for it in MAY}
         self.assertEqual({it for it, in self.connection.execute(words)} - named, set())
+
+    def test_there_is_no_other_right(self) -> None:
+        """The database's own lists of rights name those of these tables, and no other one."""
+        may = {(role, words.partition("huckleport.")[2].partition("(")[0]) for words, its in MAY.items() for role in its if words.startswith("select huckleport.")}
+        self.assertEqual(set(self.connection.execute(GIVEN_FUNCTIONS, (list(ROLES),))), may | HELPERS)
+        every = {it for it, in self.connection.execute("select relname::text from pg_class where relnamespace = 'huckleport'::regnamespace and relkind in ('r', 'v', 'S')")}
+        found = self.connection.execute(GIVEN_RIGHTS, (list(ROLES),)).fetchall()
+        self.assertEqual(len(found), len(set(found)))
+        self.assertEqual(set(found), RIGHTS | {("operator", it, "select") for it in every})
 
     def as_role(self, role: str) -> str:
         return self.place.conninfo.replace("user=postgres", f"user={role}")

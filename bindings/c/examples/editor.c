@@ -37,8 +37,7 @@ static void put_units(const uint16_t *units, size_t length)
         else if (code < 0x10000)
             printf("%c%c%c", (int)(0xe0 | code >> 12), (int)(0x80 | (code >> 6 & 63)), (int)(0x80 | (code & 63)));
         else
-            printf("%c%c%c%c", (int)(0xf0 | code >> 18), (int)(0x80 | (code >> 12 & 63)), (int)(0x80 | (code >> 6 & 63)),
-                (int)(0x80 | (code & 63)));
+            printf("%c%c%c%c", (int)(0xf0 | code >> 18), (int)(0x80 | (code >> 12 & 63)), (int)(0x80 | (code >> 6 & 63)), (int)(0x80 | (code & 63)));
     }
 }
 
@@ -111,9 +110,7 @@ static void tell_change(editor *it, size_t change)
     hp_bytes name;
     hp_text_view old_value;
     must(hp_record_at(&it->session, 0, change, &record));
-    printf("  %s of %u", record.type == HP_CHILD_LIST ? "children" : record.type == HP_ATTRIBUTES ? "attribute"
-                                                                                                  : "data",
-        record.target);
+    printf("  %s of %u", record.type == HP_CHILD_LIST ? "children" : record.type == HP_ATTRIBUTES ? "attribute" : "data", record.target);
     if (hp_record_name(&it->session, 0, change, &name) == HP_OK) {
         printf(" ");
         put_name(name);

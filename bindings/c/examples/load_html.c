@@ -57,8 +57,7 @@ static bool keep_units(loader *it, const xmlChar *text, size_t length)
         at += code < 0 ? 1 : (size_t)width;
         if (code > 0xffff)
             it->units[it->count++] = (uint16_t)(0xd7c0 + (code >> 10));
-        it->units[it->count++] = (uint16_t)(code < 0 ? 0xfffd : code > 0xffff ? 0xdc00 | (code & 0x3ff)
-                                                                              : code);
+        it->units[it->count++] = (uint16_t)(code < 0 ? 0xfffd : code > 0xffff ? 0xdc00 | (code & 0x3ff) : code);
     }
     return true;
 }
@@ -141,8 +140,7 @@ static void instruction(void *data, const xmlChar *target, const xmlChar *text)
 {
     loader *it = data;
     uint32_t made;
-    if (keep_units(it, text, length_of(text)) &&
-        did(it, "hp_create_pi", hp_create_pi(&it->session, 0, target, length_of(target), it->units, it->count, &made)))
+    if (keep_units(it, text, length_of(text)) && did(it, "hp_create_pi", hp_create_pi(&it->session, 0, target, length_of(target), it->units, it->count, &made)))
         put(it, made);
 }
 
@@ -171,8 +169,8 @@ static bool load(loader *it, FILE *page)
 
 /* ---- Writing, by the serialization rules of the HTML Standard. */
 
-static const char *const voids[] = { "area", "base", "basefont", "bgsound", "br", "col", "embed", "frame", "hr", "img", "input", "keygen", "link",
-    "meta", "param", "source", "track", "wbr", NULL };
+static const char *const voids[] = { "area", "base", "basefont", "bgsound", "br", "col", "embed", "frame", "hr", "img", "input", "keygen", "link", "meta", "param", "source",
+    "track", "wbr", NULL };
 static const char *const plains[] = { "iframe", "noembed", "noframes", "plaintext", "script", "style", "xmp", NULL };
 
 static bool is_one_of(hp_bytes name, const char *const *names)
@@ -196,8 +194,7 @@ static void put_code(uint32_t code)
     else if (code < 0x10000)
         printf("%c%c%c", (int)(0xe0 | code >> 12), (int)(0x80 | (code >> 6 & 63)), (int)(0x80 | (code & 63)));
     else
-        printf("%c%c%c%c", (int)(0xf0 | code >> 18), (int)(0x80 | (code >> 12 & 63)), (int)(0x80 | (code >> 6 & 63)),
-            (int)(0x80 | (code & 63)));
+        printf("%c%c%c%c", (int)(0xf0 | code >> 18), (int)(0x80 | (code >> 12 & 63)), (int)(0x80 | (code >> 6 & 63)), (int)(0x80 | (code & 63)));
 }
 
 static const char *escape_of(uint32_t code, bool is_value)
@@ -213,9 +210,7 @@ static const char *escape_of(uint32_t code, bool is_value)
 }
 
 /* How a text is written: as it is, with its signs escaped, or as the value of an attribute. */
-enum form { PLAIN,
-    ESCAPED,
-    VALUE };
+enum form { PLAIN, ESCAPED, VALUE };
 
 /* Writes units as UTF-8; a surrogate that stands alone is U+FFFD. */
 static void put_units(hp_text_view text, enum form form)
@@ -306,23 +301,12 @@ typedef struct open_row {
 static bool put_row(loader *it, size_t at, const hp_row *row, const open_row *around)
 {
     switch (row->type) {
-    case 1:
-        put_start(it, at, row->attributes);
-        return !is_one_of(name_of(it, at), voids);
-    case 3:
-        put_data(it, at, around && is_one_of(name_of(it, around->row), plains) ? PLAIN : ESCAPED);
-        return false;
-    case 7:
-        put_instruction(it, at);
-        return false;
-    case 8:
-        put_comment(it, at);
-        return false;
-    case 10:
-        put_doctype(it, at);
-        return false;
-    default:
-        return false;
+    case 1: put_start(it, at, row->attributes); return !is_one_of(name_of(it, at), voids);
+    case 3: put_data(it, at, around && is_one_of(name_of(it, around->row), plains) ? PLAIN : ESCAPED); return false;
+    case 7: put_instruction(it, at); return false;
+    case 8: put_comment(it, at); return false;
+    case 10: put_doctype(it, at); return false;
+    default: return false;
     }
 }
 

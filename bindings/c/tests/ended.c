@@ -6,8 +6,7 @@
 #include <stdarg.h>
 #include <string.h>
 
-enum { NODES = 9,
-    ROOM = 1 << 16 };
+enum { NODES = 9, ROOM = 1 << 16 };
 
 struct said {
     size_t length;
@@ -133,8 +132,7 @@ static void read_all(struct said *to, bool stays)
 }
 
 /* The calls that end a session if they are refused memory, by number: up to COPIES those that change no node that is there. */
-enum { COPIES = 2,
-    CALLS = 9 };
+enum { COPIES = 2, CALLS = 9 };
 
 /* (the range ends behind the second child first: it may hold no part of an element) */
 static uint8_t surround(void)

@@ -6,8 +6,7 @@
 #include <string.h>
 #include <time.h>
 
-enum { CHILDREN = 100000,
-    FEW = 1000 };
+enum { CHILDREN = 100000, FEW = 1000 };
 
 static uint32_t numbers[CHILDREN + 1];
 

@@ -7,10 +7,7 @@
 #include <stdbool.h>
 #include <stdio.h>
 
-enum { FEW = 5000,
-    MANY = 100000,
-    MORE = 1000000,
-    MOST_KEPT = 32768 };
+enum { FEW = 5000, MANY = 100000, MORE = 1000000, MOST_KEPT = 32768 };
 
 typedef uint8_t releasing(hp_session *, uint32_t);
 

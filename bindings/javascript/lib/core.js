@@ -71,7 +71,7 @@ export const soon = globalThis.setImmediate ? (does) => void globalThis.setImmed
 function limit(value, most, what) {
   const number = typeof value === "bigint" || typeof value === "symbol" ? NaN : Number(value);
   if (number >= 1 && number <= most) return Math.floor(number);
-  throw new Refusal(native.HP_TYPE_ERROR, `${what} is a number from 1 to ${most}`);
+  throw new Refusal(native.HP_TYPE_ERROR, `${what} has to be a number from 1 to ${most}, not ${String(value)}`);
 }
 
 /** Which numbers have had a wrapper, one bit for each: where the bit is down there is none to look for. */
@@ -157,7 +157,7 @@ export class Session {
   /** Answers a line of JSON, as bytes or as a string, with the line of its reply. */
   line(line) {
     const bytes = typeof line === "string" ? encoder.encode(line) : line;
-    if (!(bytes instanceof Uint8Array)) throw new Refusal(native.HP_TYPE_ERROR, "a line is a string or a Uint8Array");
+    if (!(bytes instanceof Uint8Array)) throw new Refusal(native.HP_TYPE_ERROR, `expected a line as a string or a Uint8Array, not ${typeof bytes}`);
     const status = native.hp_line(this.index, bytes);
     if (status === STUCK) check(status);
     this.hasSpoken = true;

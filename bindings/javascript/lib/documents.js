@@ -72,7 +72,7 @@ export function createElementNS(document, namespace, qualified) {
 }
 
 function createCDATASection() {
-  throw new Refusal(native.HP_NOT_SUPPORTED_ERROR, "there are no CDATA sections");
+  throw new Refusal(native.HP_NOT_SUPPORTED_ERROR, "there are no CDATA sections: use a Text");
 }
 
 function childOfKind(node, kind) {

@@ -209,7 +209,7 @@ const PLACES = new Map(Object.entries({
 
 function insertAdjacent(element, where, node) {
   const placed = PLACES.get(small(where));
-  if (!placed) throw new Refusal(SYNTAX_ERROR, "there is no such place");
+  if (!placed) throw new Refusal(SYNTAX_ERROR, `'${where}' is not one of ${[...PLACES.keys()].join(", ")}`);
   const [parent, child] = placed(element);
   return parent && insertBefore(parent, node, child);
 }

@@ -41,7 +41,7 @@ class Expansion {
     const text = this.of(this.#entities.get(name));
     this.#active.delete(name);
     this.#length += text.length;
-    if (this.#length > LONGEST) throw new SyntaxError("the entities are too long");
+    if (this.#length > LONGEST) throw new SyntaxError(`the entities are longer than ${LONGEST}`);
     return quoted(text);
   }
 }

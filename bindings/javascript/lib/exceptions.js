@@ -34,20 +34,20 @@ const CODES = [
 
 const codeOf = (name) => (name === null ? 0 : CODES.findIndex(([its]) => its === name) + 1);
 
-/** What is said where the name alone says little. */
+/** The messages of statuses. */
 const MESSAGES = new Map([
   [native.HP_INDEX_SIZE_ERROR, "the offset is past the end"],
-  [native.HP_HIERARCHY_REQUEST_ERROR, "the node may not stand there"],
+  [native.HP_HIERARCHY_REQUEST_ERROR, "the node cannot be inserted there"],
   [native.HP_WRONG_DOCUMENT_ERROR, "the nodes have different roots"],
   [native.HP_INVALID_CHARACTER_ERROR, "a name or a text has a character that it may not have"],
-  [native.HP_NOT_FOUND_ERROR, "the node is no child of this one"],
+  [native.HP_NOT_FOUND_ERROR, "the node is not a child of this one"],
   [native.HP_NOT_SUPPORTED_ERROR, "this is not supported"],
   [native.HP_INVALID_STATE_ERROR, "this is not possible now"],
-  [native.HP_INVALID_NODE_TYPE_ERROR, "a node of this kind can not be taken here"],
-  [native.HP_TYPE_ERROR, "a node of the wrong kind, or options that do not go together"],
-  [native.HP_LIMIT, "the session has no number left"],
+  [native.HP_INVALID_NODE_TYPE_ERROR, "a node of this kind cannot be used here"],
+  [native.HP_TYPE_ERROR, "the node is of the wrong kind, or options contradict each other"],
+  [native.HP_LIMIT, "the session has no number left for a new object"],
   [native.HP_CLOSED, "the session is closed"],
-  [STUCK, "a call of the module did not end: no session answers any more"],
+  [STUCK, "a call of the module did not end: no session of it can be used any more"],
 ]);
 
 /** The name of the exception that stands for a status: the standard's where it has one. */
@@ -99,7 +99,7 @@ export function exceptionFor(realm, refusal) {
   const { status } = refusal;
   const message = refusal.message || (MESSAGES.get(status) ?? "");
   if (status === native.HP_TYPE_ERROR) return new realm.global.TypeError(message);
-  if (status === TOO_LONG) return new realm.global.RangeError("the text is longer than a string can be");
-  if (status === native.HP_OUT_OF_MEMORY) return new realm.global.RangeError("out of memory: the session has ended, and every later change of it is refused so");
+  if (status === TOO_LONG) return new realm.global.RangeError("the text is longer than the longest string");
+  if (status === native.HP_OUT_OF_MEMORY) return new realm.global.RangeError("out of memory: the session has ended, and refuses every later change like this");
   return new realm.interfaces.DOMException(message, nameOf(status));
 }

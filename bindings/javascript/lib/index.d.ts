@@ -28,7 +28,7 @@ export const DOMException: {
   new (message?: string, name?: string): DOMException;
   /** An offset or index is past the end. */
   readonly INDEX_SIZE_ERR: 1;
-  /** The node may not stand there. */
+  /** The node cannot be inserted there. */
   readonly HIERARCHY_REQUEST_ERR: 3;
   /** The two belong to different trees or Documents. */
   readonly WRONG_DOCUMENT_ERR: 4;

@@ -1,11 +1,12 @@
 /** The package: the standard's interfaces over the core, Documents, windows, and Documents in and out. */
-import { has, native, Refusal, Session as Core } from "./core.js";
+import { has, native, Session as Core } from "./core.js";
 import { furnish, htmlIs, newDocument, xmlIs } from "./documents.js";
 import { globalOf } from "./host.js";
 import { provide } from "./libraries.js";
 import { readFragment, readHTML, readXML, treeAdapter as adapterOf } from "./parsing.js";
 import { firstDocument, Realm } from "./realm.js";
 import { serialize as written, serializeXML as writtenXML } from "./serializing.js";
+import { describe, refuseOther } from "./webidl.js";
 import { isNode, numberIn, sessionOf, settleAll, wrap } from "./wrappers.js";
 
 const realm = new Realm();
@@ -52,12 +53,12 @@ export const memory = Object.freeze({
    * session has ended then.
    */
   reserve(bytes) {
-    if (!(bytes >= 0 && bytes <= 4294967295)) throw new RangeError("a reserve is a number of bytes, up to 4294967295");
-    if (!native.reserve(bytes)) throw new RangeError(`out of memory: there are no ${bytes} bytes more`);
+    if (!(bytes >= 0 && bytes <= 4294967295)) throw new RangeError(`expected a number of bytes from 0 to 4294967295, not ${String(bytes)}`);
+    if (!native.reserve(bytes)) throw new RangeError(`out of memory: ${bytes} more bytes were refused`);
   },
   /** Has it not grow past so many bytes; 0 takes the bound away. A call for which there is no memory left ends its session (RangeError). */
   limit(bytes) {
-    if (!(bytes >= 0 && bytes <= 4294967295)) throw new RangeError("a bound is a number of bytes, up to 4294967295");
+    if (!(bytes >= 0 && bytes <= 4294967295)) throw new RangeError(`expected a number of bytes from 0 to 4294967295, not ${String(bytes)}`);
     native.bound(bytes);
   },
 });
@@ -107,7 +108,7 @@ export class Session {
 
 /** A node that was given, or a refusal of what is none. */
 function nodeOf(given) {
-  if (!isNode(given)) throw new Refusal(native.HP_TYPE_ERROR, "this is no node");
+  if (!isNode(given)) refuseOther("a node", given);
   return given;
 }
 
@@ -126,7 +127,7 @@ export function createDocument({ beside, xml = false } = {}) {
 /** The global object of a context, which has the constructors of the language. */
 function contextGlobal(given) {
   const found = globalOf(given);
-  if (typeof found.Function !== "function") throw new TypeError("`global` is the global object of a context (node's vm.createContext), and this is none");
+  if (typeof found.Function !== "function") throw new TypeError(`expected the global object of a context (node's vm.createContext) as \`global\`, not ${describe(given)}`);
   return found;
 }
 

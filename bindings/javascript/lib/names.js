@@ -107,10 +107,10 @@ function fits(namespace, prefix, qualified) {
 function extracted(namespace, qualified, tryName) {
   const { prefix, local } = parted(qualified);
   const its = { namespace: namespace === "" ? null : namespace, prefix, local };
-  if (prefix !== null && !PREFIX.test(prefix)) throw new Refusal(native.HP_INVALID_CHARACTER_ERROR);
+  if (prefix !== null && !PREFIX.test(prefix)) throw new Refusal(native.HP_INVALID_CHARACTER_ERROR, `'${prefix}' is not a valid prefix`);
   if (fits(its.namespace, prefix, qualified)) return its;
   tryName(local);
-  throw new Refusal(NAMESPACE_ERROR, "the name does not fit its namespace");
+  throw new Refusal(NAMESPACE_ERROR, `the name '${qualified}' does not fit the namespace ${its.namespace === null ? "null" : `'${its.namespace}'`}`);
 }
 
 /** Makes an element that is let go at once. */

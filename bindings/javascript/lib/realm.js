@@ -99,8 +99,8 @@ export class Realm {
     return new this.global.TypeError("Illegal invocation");
   }
 
-  tooFew(required) {
-    return new this.global.TypeError(`${required} argument${required === 1 ? " is" : "s are"} required`);
+  tooFew(required, given) {
+    return new this.global.TypeError(`${required} argument${required === 1 ? " is" : "s are"} required, not ${given}`);
   }
 
   /** A list as an array of the realm. */

@@ -4,6 +4,7 @@ import { wanted } from "./libraries.js";
 import { attributeByNumber, elementByNumber, HTML, MATHML, SVG, XLINK, XML, XMLNS } from "./names.js";
 import { contentsOf } from "./nodes.js";
 import { Rows } from "./rows.js";
+import { describe } from "./webidl.js";
 import { isNode, numberOf, sessionOf, wrap } from "./wrappers.js";
 
 const setOf = (names) => new Set(names.split(" "));
@@ -83,7 +84,7 @@ export function serializeInner(node) {
 
 /** A node and what is in it as HTML: of a Document and a fragment what is in it. */
 export function serialize(node) {
-  if (!isNode(node)) throw new TypeError("this is no node");
+  if (!isNode(node)) throw new TypeError(`expected a node, not ${describe(node)}`);
   return written(node, false);
 }
 
@@ -131,7 +132,7 @@ function objectsOf(node) {
 
 /** A node and what is in it as XML. What XML can't say, such as a comment with two hyphens, is an error where `isStrict` is true. Needs w3c-xmlserializer. */
 export function serializeXML(node, { isStrict = false } = {}) {
-  if (!isNode(node)) throw new TypeError("this is no node");
+  if (!isNode(node)) throw new TypeError(`expected a node, not ${describe(node)}`);
   const serializer = wanted("w3c-xmlserializer", "serializing XML");
   return (serializer.default ?? serializer)(objectsOf(node), { requireWellFormed: isStrict });
 }

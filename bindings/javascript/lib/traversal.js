@@ -45,7 +45,7 @@ class Traversal {
   }
 
   refuse() {
-    throw new Refusal(native.HP_INVALID_STATE_ERROR, "the filter is being asked");
+    throw new Refusal(native.HP_INVALID_STATE_ERROR, "the filter is being called: it may not use its own iterator or walker");
   }
 
   filtered(node) {
@@ -53,7 +53,7 @@ class Traversal {
     try {
       return this.asked(node.object);
     } catch (fault) {
-      throw isRevoked(this.filter) ? new Refusal(native.HP_TYPE_ERROR, "the filter is a proxy that was revoked") : fault;
+      throw isRevoked(this.filter) ? new Refusal(native.HP_TYPE_ERROR, "the filter is a revoked proxy") : fault;
     } finally {
       this.isAsking = false;
     }

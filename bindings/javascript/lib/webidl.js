@@ -14,20 +14,30 @@ export function refuseType(message) {
   throw new Refusal(native.HP_TYPE_ERROR, message);
 }
 
+/** A value in a message: an object only by its type, since asking it more could run a program's code. */
+export function describe(value) {
+  if (typeof value === "string") return JSON.stringify(value.length > 40 ? `${value.slice(0, 40)}..` : value);
+  if (typeof value === "function") return "a function";
+  return typeof value === "object" && value !== null ? "an object" : String(value);
+}
+
+/** Refuses a value where another kind is expected. */
+export const refuseOther = (expected, value) => refuseType(`expected ${expected}, not ${describe(value)}`);
+
 function string(value) {
-  if (typeof value === "symbol") refuseType("a symbol is no string");
+  if (typeof value === "symbol") refuseType(`${String(value)} cannot be converted to a string`);
   return `${value}`;
 }
 
 function number(value) {
-  if (typeof value === "symbol" || typeof value === "bigint") refuseType(`a ${typeof value} is no number`);
+  if (typeof value === "symbol" || typeof value === "bigint") refuseType(`${String(value)} cannot be converted to a number`);
   return Number(value);
 }
 
 const isObject = (value) => (typeof value === "object" && value !== null) || typeof value === "function";
 
 function list(value) {
-  if (!isObject(value) || typeof value[Symbol.iterator] !== "function") refuseType("this is no sequence");
+  if (!isObject(value) || typeof value[Symbol.iterator] !== "function") refuseOther("a sequence", value);
   return Array.from(value, string);
 }
 
@@ -41,9 +51,9 @@ const PLAIN = {
   "sequence<DOMString>": list,
   "unsigned long": (value) => (typeof value === "number" ? value : number(value)) >>> 0,
   "unsigned short": (value) => (typeof value === "number" ? value : number(value)) & 0xffff,
-  "NodeFilter?": (value) => (value === null || value === undefined ? null : isObject(value) ? value : refuseType("a filter is a function or an object")),
-  Function: (value) => (typeof value === "function" ? value : refuseType("a callback is a function")),
-  dictionary: (value) => (value === null || value === undefined ? {} : isObject(value) ? value : refuseType("options are an object")),
+  "NodeFilter?": (value) => (value === null || value === undefined ? null : isObject(value) ? value : refuseOther("a filter as a function or an object", value)),
+  Function: (value) => (typeof value === "function" ? value : refuseOther("a callback as a function", value)),
+  dictionary: (value) => (value === null || value === undefined ? {} : isObject(value) ? value : refuseOther("options as an object", value)),
 };
 
 const brands = new Map();
@@ -68,7 +78,7 @@ export function dictionary(members) {
     const from = PLAIN.dictionary(value);
     return Object.entries(members).map(([name, type]) => {
       const given = from[name];
-      return given === undefined ? refuseType(`there is no ${name}`) : converterOf(type)(given);
+      return given === undefined ? refuseType(`the option ${name} is missing`) : converterOf(type)(given);
     });
   };
 }
@@ -88,12 +98,12 @@ export function otherNodes(is, standIn) {
 
 function nodeOf(value, otherwise, status = HIERARCHY_REQUEST_ERROR) {
   if (brands.get("Node")(value)) return value;
-  if (isOtherNode(value)) throw new Refusal(status, "an attribute is no child of anything");
+  if (isOtherNode(value)) throw new Refusal(status, "an attribute cannot be a child");
   return otherwise(value);
 }
 
-const noNode = () => refuseType("this is no Node");
-const orNull = (value) => (value === null || value === undefined ? null : noNode());
+const noNode = (value) => refuseOther("a Node", value);
+const orNull = (value) => (value === null || value === undefined ? null : noNode(value));
 
 const NODES = {
   Node: (value) => nodeOf(value, noNode),
@@ -112,7 +122,7 @@ function converterOf(type) {
   const name = isNullable ? type.slice(0, -1) : type;
   const is = brands.get(name);
   if (!is) throw new Error(`there is no type ${type}`);
-  const must = (value) => (is(value) ? value : refuseType(`this is no ${name}`));
+  const must = (value) => (is(value) ? value : refuseOther(`an object ${name}`, value));
   return isNullable ? (value) => (value === null || value === undefined ? null : must(value)) : must;
 }
 
@@ -164,7 +174,7 @@ const FORMS = [
   (realm, test, does, required, [one]) => ({
     operation(first) {
       if (!test(this)) throw realm.wrongThis();
-      if (arguments.length < required) throw realm.tooFew(required);
+      if (arguments.length < required) throw realm.tooFew(required, arguments.length);
       try {
         return does(this, one.convert(first));
       } catch (fault) {
@@ -175,7 +185,7 @@ const FORMS = [
   (realm, test, does, required, [one, two]) => ({
     operation(first, second) {
       if (!test(this)) throw realm.wrongThis();
-      if (arguments.length < required) throw realm.tooFew(required);
+      if (arguments.length < required) throw realm.tooFew(required, arguments.length);
       try {
         return does(this, one.convert(first), two.convert(second));
       } catch (fault) {
@@ -186,7 +196,7 @@ const FORMS = [
   (realm, test, does, required, [one, two, three]) => ({
     operation(first, second, third) {
       if (!test(this)) throw realm.wrongThis();
-      if (arguments.length < required) throw realm.tooFew(required);
+      if (arguments.length < required) throw realm.tooFew(required, arguments.length);
       try {
         return does(this, one.convert(first), two.convert(second), three.convert(third));
       } catch (fault) {
@@ -201,7 +211,7 @@ function general(realm, test, does, required, types) {
   return {
     operation(...given) {
       if (!test(this)) throw realm.wrongThis();
-      if (given.length < required) throw realm.tooFew(required);
+      if (given.length < required) throw realm.tooFew(required, given.length);
       try {
         return does(this, ...convert(given));
       } catch (fault) {
@@ -290,7 +300,7 @@ function constructorOf(realm, table) {
   const convert = conversion(types);
   const made = function (...given) {
     if (!construct || new.target === undefined) throw new realm.global.TypeError("Illegal constructor");
-    if (given.length < required) throw realm.tooFew(required);
+    if (given.length < required) throw realm.tooFew(required, given.length);
     try {
       return realm.constructed(new.target, construct(realm, ...convert(given)));
     } catch (fault) {

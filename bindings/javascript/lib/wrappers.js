@@ -691,7 +691,7 @@ export function wrapDocument(session, number, its) {
 /** A node's number for a call of a session, which knows its own nodes alone. */
 export function numberIn(session, node) {
   const its = itsOf(node);
-  if (its.session !== session) throw new Refusal(native.HP_NOT_SUPPORTED_ERROR, "the node is of another session");
+  if (its.session !== session) throw new Refusal(native.HP_NOT_SUPPORTED_ERROR, "the node belongs to another session: import a copy of it");
   return its.number;
 }
 

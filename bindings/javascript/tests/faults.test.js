@@ -137,12 +137,12 @@ test("what is refused says why", () => {
   };
   for (const limits of [{ numbers: -1 }, { numbers: 0 }, { numbers: "x" }, { line: 0 }, { line: 2 ** 40 }]) {
     const fault = saying(() => new Session(limits));
-    assert.ok(fault instanceof TypeError && /is a number from 1 to/u.test(fault.message), `${fault}`);
+    assert.ok(fault instanceof TypeError && /has to be a number from 1 to \d+, not /u.test(fault.message), `${fault}`);
   }
   const session = new Session();
-  for (const line of [5, null, {}, undefined]) assert.match(saying(() => session.line(line)).message, /a line is a string/u);
-  assert.match(saying(() => createDocument({ beside: {} })).message, /no node/u);
-  assert.match(saying(() => session.number({})).message, /no node/u);
+  for (const line of [5, null, {}, undefined]) assert.match(saying(() => session.line(line)).message, /expected a line as a string or a Uint8Array, not /u);
+  assert.match(saying(() => createDocument({ beside: {} })).message, /expected a node, not an object/u);
+  assert.match(saying(() => session.number({})).message, /expected a node, not an object/u);
   assert.ok(saying(() => memory.limit(-1)) instanceof RangeError);
   const fault = saying(() => createDocument().appendChild(createDocument().createElement("p")));
   assert.ok(fault instanceof DOMException && fault.message !== "");

@@ -244,7 +244,7 @@ static bool building_begins(Builder *it)
     hp_first_child(&it->calls->session, it->root, &child);
     if (child == HP_NONE)
         return order_push(&it->order, it->root, 0, kind_at(it->calls, it->root));
-    PyErr_SetString(PyExc_ValueError, "the root has children");
+    PyErr_Format(PyExc_ValueError, "node %u has children already: build under one that has none", it->root);
     return false;
 }
 

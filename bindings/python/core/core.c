@@ -224,7 +224,7 @@ static int attribute_set(PyObject *self, PyObject *value, void *closure)
 {
     const PyMethodDef *set = ((const Attribute *)closure)->set;
     if (!value) {
-        PyErr_SetString(PyExc_AttributeError, "it can't be deleted");
+        PyErr_SetString(PyExc_AttributeError, "this attribute cannot be deleted: give it another value");
         return -1;
     }
     PyObject *words = PyTuple_Pack(1, value);

@@ -129,7 +129,7 @@ static const Expat *expat_found(void)
     static const char magic[] = "pyexpat.expat_CAPI 1.1";
     const Expat *found = PyCapsule_Import("pyexpat.expat_CAPI", 0);
     if (found && (strcmp(found->magic, magic) != 0 || (size_t)found->size < sizeof(Expat))) {
-        PyErr_SetString(PyExc_ImportError, "this Python's pyexpat has another form");
+        PyErr_Format(PyExc_ImportError, "this Python's pyexpat is \"%s\" of %d bytes, and \"%s\" is needed", found->magic, found->size, magic);
         return NULL;
     }
     return found;

@@ -235,7 +235,7 @@ static PyObject *thing_new(PyTypeObject *type, PyObject *words, PyObject *named)
     uint32_t number = 0;
     uint8_t family = FAMILY_OBSERVER;
     if (PyTuple_Size(words) < 2) {
-        PyErr_SetString(PyExc_TypeError, "a session and a number are due");
+        PyErr_SetString(PyExc_TypeError, "expected a session and a number");
         return NULL;
     }
     PyObject *session = PyTuple_GetItem(words, 0);

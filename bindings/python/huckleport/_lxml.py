@@ -93,12 +93,12 @@ def to_lxml(node: Node) -> Any:
     """
     etree: Any = import_module("lxml.etree")
     if not isinstance(node, (Document, Element)):
-        raise BadType(None, "", f"lxml has no tree of a {type(node).__name__}")
+        raise BadType(None, "", f"lxml has trees of a Document or an Element, not of a {type(node).__name__}")
     if isinstance(node, Document) and node.document_element is None:
-        raise BadValue(None, "", "lxml has no tree without an element")
+        raise BadValue(None, "", "lxml has no tree without an element: append one to the document")
     parser = etree.XMLParser(huge_tree=True, resolve_entities=False, load_dtd=False, no_network=True, strip_cdata=False, recover=True)
     found = etree.fromstring(xml.serialize(node).encode("utf-8"), parser)
     for it in parser.error_log:
         if it.level >= etree.ErrorLevels.ERROR and it.type_name not in KEPT_NAMES:
-            raise NotXML(None, "", f"lxml has no such tree: {it.message}")
+            raise NotXML(None, "", f"lxml cannot hold this tree: {it.message}")
     return found.getroottree() if isinstance(node, Document) else found

@@ -175,7 +175,7 @@ def matcher(node: ParentNode, selectors: str, namespaces: Optional[Dict[str, str
     try:
         found = sieve.compile(selectors, namespaces)
     except (sieve.SelectorSyntaxError, NotImplementedError, TypeError, ValueError) as fault:
-        raise BadValue(None, "select", f"{selectors!r} is no selector: {str(fault).splitlines()[0]}") from None
+        raise BadValue(None, "select", f"{selectors!r} is not a valid selector: {str(fault).splitlines()[0]}") from None
     return Match(found.selectors, node, found.namespaces, found.flags)
 
 

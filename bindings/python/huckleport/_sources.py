@@ -24,7 +24,7 @@ def read(source: Source) -> Union[str, bytes]:
     try:
         return found if isinstance(found, (str, bytes)) else bytes(memoryview(found))
     except TypeError:
-        raise BadType(None, "parse", f"a text, bytes, a path or a file is due, and not {type(found).__name__}") from None
+        raise BadType(None, "parse", f"expected a text, bytes, a path or a file, not {type(found).__name__}") from None
 
 
 def write(target: Target, data: bytes) -> None:
@@ -46,7 +46,7 @@ class Pieces(Generic[D]):
     def feed(self, data: Union[str, bytes]) -> None:
         """Takes a piece; all of them are texts, or all are bytes."""
         if not isinstance(data, (str, bytes)) or (self._pieces and not isinstance(data, type(self._pieces[0]))):
-            raise BadType(None, "feed", f"a piece is a str or bytes, as the first one was, and not {type(data).__name__}")
+            raise BadType(None, "feed", f"expected {type(self._pieces[0]).__name__ if self._pieces else 'str or bytes'}, as all pieces are, not {type(data).__name__}")
         self._pieces.append(data)
 
     def close(self) -> D:

@@ -245,7 +245,7 @@ class History:
         """Does the steps of a group, and gives those that lead back to the other list."""
         self.commit()
         if self._depth:
-            raise GroupIsOpen(None, "", "a group is open")
+            raise GroupIsOpen(None, "", "a group of edits is open: leave its block first")
         if not take:
             return False
         group = take[-1]

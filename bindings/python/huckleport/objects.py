@@ -24,9 +24,9 @@ class SessionObject(Thing):
     def _of(self, other: object, kind: Type[SessionObject]) -> int:
         """The number of an object that is handed in, which has to be of this session."""
         if not isinstance(other, kind):
-            raise BadType(None, "", f"a {kind.__name__} is due, and not {type(other).__name__}")
+            raise BadType(None, "", f"expected a {kind.__name__}, not {type(other).__name__}")
         if other.session is not self.session:
-            raise BadValue(None, "", f"the {kind.__name__} is of another session")
+            raise BadValue(None, "", f"the {kind.__name__} {other.number} belongs to another session")
         return other.number
 
     def _of_maybe(self, other: object, kind: Type[SessionObject]) -> int:
@@ -41,7 +41,7 @@ class SessionObject(Thing):
         return f"<{type(self).__name__} {self.number}{' ' + said if said else ''}>"
 
     def __reduce__(self) -> str:
-        raise BadType(None, "", f"a {type(self).__name__} of a session can't be copied or pickled")
+        raise BadType(None, "", f"a {type(self).__name__} belongs to its session, and cannot be copied or pickled")
 
 
 def _or_fault(it: SessionObject) -> str:

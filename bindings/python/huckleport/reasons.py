@@ -31,7 +31,7 @@ class Refused:
         return [it for it in self.words if it in NODES and isinstance(self.words[it], int) and self.words[it] != made.HP_NONE]
 
     def place(self, name: str) -> Any:
-        """Where the node of a parameter stands."""
+        """The neighbours of the node of a parameter."""
         return self.calls.links(self.words[name])
 
     def said(self, number: int) -> str:
@@ -44,51 +44,51 @@ class Refused:
 
 
 def missing(it: Refused) -> Optional[str]:
-    """Which object is not there."""
+    """Which object there is not."""
     for name in it.nodes():
         try:
             it.place(name)
         except LookupError:
-            return f"there is no node {it.words[name]}, it was discarded or never made"
+            return f"there is no node {it.words[name]}: it was discarded, or never made"
     found = [f"{ASKED[name]} {value}" for name, value in it.words.items() if name in ASKED]
-    return f"there is no {' or no '.join(found)}, it was released or never made" if found else None
+    return f"there is no {' or no '.join(found)}: it was released, or never made" if found else None
 
 
 def misplaced(it: Refused) -> Optional[str]:
-    """Why a node can't come where it should."""
+    """Why a node cannot be inserted."""
     if it.call in ("extract_contents", "clone_contents"):
-        return f"range {it.words['range']} holds a doctype"
+        return f"range {it.words['range']} contains a doctype, which no fragment can have"
     over = "parent" if "parent" in it.words and it.call != "surround_contents" else "range"
     if over == "range":
-        return f"{it.node('node' if 'node' in it.words else 'parent')} can't come where range {it.words['range']} stands"
+        return f"{it.node('node' if 'node' in it.words else 'parent')} cannot be inserted at the start of range {it.words['range']}"
     if it.words["node"] == made.HP_NONE:
-        return f"{it.node('parent')} has no children"
-    return f"{it.node('node')} can't stand under {it.node('parent')}{in_the_way(it)}"
+        return f"{it.node('parent')} cannot have children"
+    return f"{it.node('node')} cannot be a child of {it.node('parent')}{in_the_way(it)}"
 
 
 def in_the_way(it: Refused) -> str:
-    """What keeps a node from standing under another: it stands above that one, or a Document has one of its kind."""
+    """Why a node cannot be a child of another: it is an inclusive ancestor of that one, or a Document has one of its kind."""
     node, parent = it.words["node"], it.words["parent"]
     if node == parent or it.calls.contains(node, parent):
-        return ", which it contains"
+        return ", whose inclusive ancestor it is"
     passed = (node, it.words["child"]) if it.call == "replace_child" else (node,)
     if it.place("parent").kind != DOCUMENT or it.place("node").kind not in ONLY_ONCE:
         return ""
     for other in it.calls.read_children(parent):
         if other not in passed and it.calls.links(other).kind == it.place("node").kind:
-            return f", which has {it.said(other)}"
+            return f", which already has {it.said(other)}"
     return ""
 
 
 def not_a_child(it: Refused) -> str:
     """Which node is no child."""
-    return f"{it.node('child')} is no child of {it.node('parent')}"
+    return f"{it.node('child')} is not a child of {it.node('parent')}"
 
 
 def bad_name(it: Refused) -> Optional[str]:
-    """Which name is none."""
+    """Which name is not valid."""
     names = [repr(it.words[name]) for name in ("name", "target") if name in it.words]
-    return f"{names[0]} is no name for it" if names else None
+    return f"{names[0]} is not a valid name" if names else None
 
 
 def beyond(it: Refused) -> Optional[str]:
@@ -96,50 +96,52 @@ def beyond(it: Refused) -> Optional[str]:
     found = next(iter(it.nodes()), None)
     if found is None or "offset" not in it.words:
         return None
-    return f"{it.words['offset']} is beyond the length of {it.node(found)}, which is {it.calls.length(it.words[found])}"
+    return f"offset {it.words['offset']} is beyond the length of {it.node(found)}, which is {it.calls.length(it.words[found])}"
 
 
 def unsupported(it: Refused) -> Optional[str]:
-    """What is asked of a Document, or which number is no choice."""
+    """Which Document was given, or which number is not a choice."""
     if "how" in it.words:
-        return f"{it.words['how']} is no way to compare"
-    return f"{it.node('node')} is a Document" if "node" in it.words else None
+        return f"how is {it.words['how']}, and has to be from 0 to 3"
+    return f"{it.node('node')} is a Document, which cannot be moved or copied into another" if "node" in it.words else None
 
 
 def elsewhere(it: Refused) -> Optional[str]:
-    """What is of another tree."""
+    """Which object is in another tree."""
     found = [it.node(name) for name in it.nodes()] or [f"range {it.words[name]}" for name in ("source",) if name in it.words]
-    return f"{found[-1]} is of another tree than range {it.words['range']}" if found and "range" in it.words else None
+    return f"{found[-1]} is in another tree than range {it.words['range']}" if found and "range" in it.words else None
 
 
 def no_place(it: Refused) -> Optional[str]:
-    """Why no end of a range can stand there, or nothing can be surrounded."""
+    """Why a range cannot start or end there, or a node cannot surround others."""
     if it.call == "surround_contents":
-        return f"{it.node('parent')} is of no kind that can surround others"
+        return f"{it.node('parent')} is a Document, doctype or fragment, which cannot surround others: give an element"
     kinds = {name: it.place(name).kind for name in it.nodes()}
     doctype = next((name for name in kinds if kinds[name] == DOCTYPE), None)
     if doctype is not None:
-        return f"{it.node(doctype)} is a doctype"
-    return f"{it.node(next(iter(kinds)))} has no parent" if kinds else None
+        return f"{it.node(doctype)} is a doctype, in which no range can start or end"
+    return f"{it.node(next(iter(kinds)))} has no parent, in which a range could start or end" if kinds else None
 
 
 def partly(it: Refused) -> str:
-    """Which range holds a part of a node."""
-    return f"range {it.words['range']} holds a part of a node that is no text"
+    """Which range partially contains a node."""
+    return f"range {it.words['range']} partially contains a node that is not a Text"
 
 
 def wrong_kind(it: Refused) -> Optional[str]:
-    """What is of the wrong kind."""
+    """Which node or option is of the wrong kind."""
     if it.call == "observe":
-        return f"the options for {it.node('node')} name no type, or go not together"
+        return f"the options for {it.node('node')} select none of child_list, attributes and character_data, or contradict each other"
     name = next(iter(it.nodes()), None)
-    return f"{it.node(name)} is of no kind that has it" if name else None
+    return f"{it.node(name)} is of another kind than this call is for" if name else None
 
 
 def in_use(it: Refused) -> str:
-    """Why a node can not be let go."""
+    """Why a node cannot be discarded."""
     parent = it.place("node").parent
-    return f"{it.node('node')} " + ("is still referred to" if parent == made.HP_NONE else f"stands under {it.said(parent)}")
+    if parent != made.HP_NONE:
+        return f"{it.node('node')} is a child of {it.said(parent)}: remove it first"
+    return f"{it.node('node')} is in use: a range, an iterator, a walker, an observer or a record refers to its tree, or it is the node document of others"
 
 
 REASONS: Dict[int, Callable[[Refused], Optional[str]]] = {
@@ -162,7 +164,7 @@ _asking = threading.local()
 
 
 def reason(status: int, call: str, calls: Any, words: Sequence[Any]) -> Optional[str]:
-    """Why a call with these words was refused, where that can be told; to tell it never raises."""
+    """Why a call with these words was refused, if that can be found out; it never raises."""
     found = REASONS.get(status)
     if found is None or getattr(_asking, "is_on", False):
         return None

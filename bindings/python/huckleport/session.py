@@ -91,7 +91,7 @@ class Session:
         return "<Session, closed>" if self.closed else "<Session>"
 
     def __reduce__(self) -> str:
-        raise BadType(None, "", "a session can't be copied or pickled")
+        raise BadType(None, "", "a session cannot be copied or pickled")
 
     # objects by numbers
 
@@ -185,7 +185,7 @@ class Session:
         A callback is no ``async def``: ``notify`` awaits nothing.
         """
         if callback is not None and is_async(callback):
-            raise BadType(None, "create_mutation_observer", "notify() does not await a callback by async def: give it one by def")
+            raise BadType(None, "create_mutation_observer", "the callback is an async function, which notify() does not await: give a plain function")
         found = self._make(MutationObserver, self._calls.create_observer())
         found.callback = callback
         return found
@@ -249,7 +249,7 @@ class Session:
     def line(self, line: bytes) -> bytes:
         """Answers a line of JSON as the program does, and returns the line of the reply with its newline."""
         if not isinstance(line, (bytes, bytearray, memoryview)):
-            raise BadType(None, "", f"a line is bytes, and not {type(line).__name__}")
+            raise BadType(None, "", f"expected a line as bytes, not {type(line).__name__}")
         status, reply = self._calls.read_line(bytes(line))
         if reply is None:
             raise refusal(status, "line")

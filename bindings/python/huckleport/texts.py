@@ -19,7 +19,7 @@ def utf16_length(text: str) -> int:
 def utf16_offset(text: str, index: int) -> int:
     """The offset in units of the character at an index of a str."""
     if not 0 <= index <= len(text):
-        raise BadIndex(None, "", f"{index} is not from 0 to {len(text)}")
+        raise BadIndex(None, "", f"index {index} is not from 0 to {len(text)}")
     return utf16_length(text[:index])
 
 
@@ -33,9 +33,9 @@ def utf16_index(text: str, offset: int) -> int:
     else:
         index = len(text)
     if offset < 0 or offset > at:
-        raise BadIndex(None, "", f"{offset} is not from 0 to {at}")
+        raise BadIndex(None, "", f"offset {offset} is not from 0 to {at}")
     if offset < at:
-        raise BadValue(None, "", f"{offset} is within a character")
+        raise BadValue(None, "", f"offset {offset} is between the two units of a character")
     return index
 
 

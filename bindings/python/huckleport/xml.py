@@ -113,7 +113,7 @@ class Parser(Pieces[Document]):
 def _name(name: str) -> str:
     """The name, where XML can have it."""
     if not _pattern(NAME).fullmatch(name):
-        raise NotXML(None, "", f"XML has no name {name!r}")
+        raise NotXML(None, "", f"{name!r} is not a name in XML")
     return name
 
 
@@ -125,7 +125,7 @@ STYLE = Style(table(IN_TEXT), table(IN_VALUE), (), (), True)
 
 def _doctype(name: str, public_id: str, system_id: str) -> str:
     if '"' in system_id and "'" in system_id or '"' in public_id:
-        raise NotXML(None, "", f"XML has no doctype with these ids: {public_id!r}, {system_id!r}")
+        raise NotXML(None, "", f"XML cannot quote the ids of this doctype: {public_id!r}, {system_id!r}")
     public = f' PUBLIC "{public_id}"' if public_id else " SYSTEM" if system_id else ""
     mark = "'" if '"' in system_id else '"'
     return f"<!DOCTYPE {name}{public}{f' {mark}{system_id}{mark}' if system_id or public_id else ''}>"
@@ -136,11 +136,11 @@ def _other(kind: int, name: Optional[str], data: Optional[str], public_id: Optio
     name, data = name or "", data or ""
     if kind == COMMENT:
         if "--" in data or data.endswith("-"):
-            raise NotXML(None, "", f"XML has no comment with two strokes, or one at its end: {data!r}")
+            raise NotXML(None, "", f"a comment in XML may not contain '--' or end with '-': {data!r}")
         return f"<!--{data}-->"
     if kind == INSTRUCTION:
         if "?>" in data or name.lower() == "xml":
-            raise NotXML(None, "", f"XML has no such processing instruction: {name!r} {data!r}")
+            raise NotXML(None, "", f"a processing instruction in XML may not contain '?>' or be called 'xml': {name!r} {data!r}")
         return f"<?{_name(name)} {data}?>"
     return _doctype(_name(name), public_id or "", system_id or "")
 
@@ -152,7 +152,7 @@ def serialize(node: Node) -> str:
         _name(name)
     bad = _pattern(NO_CHARACTER).search(found.text if found.is_doubtful else found.others)
     if bad:
-        raise NotXML(None, "", f"XML has no character {bad.group()!r}")
+        raise NotXML(None, "", f"XML cannot hold the character {bad.group()!r}")
     return found.text
 
 
@@ -187,7 +187,7 @@ def _encoded(node: Node, text: str, encoding: str) -> bytes:
     try:
         "".join((found.others, *found.names)).encode(encoding)
     except UnicodeEncodeError as fault:
-        raise NotXML(None, "tostring", f"{encoding} has no character {fault.object[fault.start]!r} for a name, a comment or an instruction") from None
+        raise NotXML(None, "tostring", f"{encoding} has no character {fault.object[fault.start]!r}, and a name, a comment or an instruction cannot have a reference: write it as utf-8") from None
     return text.encode(encoding, "xmlcharrefreplace")
 
 

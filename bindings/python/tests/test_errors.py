@@ -196,7 +196,7 @@ class Callbacks(unittest.TestCase):
         for it in (callback, functools.partial(callback, 1)):
             with self.assertRaises(h.BadType) as caught:
                 self.session.create_mutation_observer(it)
-            self.assertIn("async def", str(caught.exception))
+            self.assertIn("async function", str(caught.exception))
 
     def test_async_is_refused_when_it_was_called(self):
         async def callback(records, observer):

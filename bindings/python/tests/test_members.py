@@ -175,47 +175,47 @@ class Reasons(unittest.TestCase):
         doctype, fragment = document.create_document_type("html"), document.create_document_fragment()
         found.select_node_contents(self.text)
         for use, due in (
-            (lambda: document.append_child(loose), "append_child: 4 <c> can't stand under 0 <#document>, which has 1 <a>: HierarchyRequestError"),
-            (lambda: document.replace_child(document, self.a), "replace_child: 0 <#document> can't stand under 0 <#document>, which it contains: HierarchyRequestError"),
-            (lambda: found.surround_contents(fragment), "surround_contents: 6 <#document-fragment> is of no kind that can surround others: InvalidNodeTypeError"),
-            (lambda: self.session.create_static_range(loose, 0, doctype, 0), "create_static_range: 5 <html> is a doctype: InvalidNodeTypeError"),
-            (lambda: document.create_processing_instruction("1", ""), "create_processing_instruction: '1' is no name for it: InvalidCharacterError"),
-            (lambda: document.append_child(self.text), "append_child: 3 <#text> can't stand under 0 <#document>: HierarchyRequestError"),
-            (lambda: self.b.append_child(self.a), "append_child: 1 <a> can't stand under 2 <b>, which it contains: HierarchyRequestError"),
-            (lambda: self.a.remove_child(self.text), "remove_child: 3 <#text> is no child of 1 <a>: NotFoundError"),
-            (lambda: self.a.insert_before(loose, self.text), "insert_before: 3 <#text> is no child of 1 <a>: NotFoundError"),
-            (lambda: document.create_element("1a"), "create_element: '1a' is no name for it: InvalidCharacterError"),
-            (lambda: self.a.set_attribute("a b", ""), "set_attribute: 'a b' is no name for it: InvalidCharacterError"),
-            (lambda: self.text.insert_data(5, "x"), "insert_data: 5 is beyond the length of 3 <#text>, which is 4: IndexSizeError"),
-            (lambda: found.set_start(self.text, 9), "set_start: 9 is beyond the length of 3 <#text>, which is 4: IndexSizeError"),
-            (lambda: found.set_start(doctype, 0), "set_start: 5 <html> is a doctype: InvalidNodeTypeError"),
-            (lambda: found.select_node(loose), "select_node: 4 <c> has no parent: InvalidNodeTypeError"),
-            (lambda: document.adopt_node(document), "adopt_node: 0 <#document> is a Document: NotSupportedError"),
-            (lambda: found.compare_boundary_points(7, found), "compare_boundary_points: 7 is no way to compare: NotSupportedError"),
-            (lambda: found.compare_point(loose, 0), "compare_point: 4 <c> is of another tree than range 0: WrongDocumentError"),
-            (lambda: self.text.discard(), "discard: 3 <#text> stands under 2 <b>: in-use"),
-            (lambda: h.CharacterData.append_data(self.a, "x"), "append_data: 1 <a> is of no kind that has it: TypeError"),
-            (lambda: self.session.create_mutation_observer().observe(self.a), "observe: the options for 1 <a> name no type, or go not together: TypeError"),
+            (lambda: document.append_child(loose), "append_child: 4 <c> cannot be a child of 0 <#document>, which already has 1 <a>: HierarchyRequestError"),
+            (lambda: document.replace_child(document, self.a), "replace_child: 0 <#document> cannot be a child of 0 <#document>, whose inclusive ancestor it is: HierarchyRequestError"),
+            (lambda: found.surround_contents(fragment), "surround_contents: 6 <#document-fragment> is a Document, doctype or fragment, which cannot surround others: give an element: InvalidNodeTypeError"),
+            (lambda: self.session.create_static_range(loose, 0, doctype, 0), "create_static_range: 5 <html> is a doctype, in which no range can start or end: InvalidNodeTypeError"),
+            (lambda: document.create_processing_instruction("1", ""), "create_processing_instruction: '1' is not a valid name: InvalidCharacterError"),
+            (lambda: document.append_child(self.text), "append_child: 3 <#text> cannot be a child of 0 <#document>: HierarchyRequestError"),
+            (lambda: self.b.append_child(self.a), "append_child: 1 <a> cannot be a child of 2 <b>, whose inclusive ancestor it is: HierarchyRequestError"),
+            (lambda: self.a.remove_child(self.text), "remove_child: 3 <#text> is not a child of 1 <a>: NotFoundError"),
+            (lambda: self.a.insert_before(loose, self.text), "insert_before: 3 <#text> is not a child of 1 <a>: NotFoundError"),
+            (lambda: document.create_element("1a"), "create_element: '1a' is not a valid name: InvalidCharacterError"),
+            (lambda: self.a.set_attribute("a b", ""), "set_attribute: 'a b' is not a valid name: InvalidCharacterError"),
+            (lambda: self.text.insert_data(5, "x"), "insert_data: offset 5 is beyond the length of 3 <#text>, which is 4: IndexSizeError"),
+            (lambda: found.set_start(self.text, 9), "set_start: offset 9 is beyond the length of 3 <#text>, which is 4: IndexSizeError"),
+            (lambda: found.set_start(doctype, 0), "set_start: 5 <html> is a doctype, in which no range can start or end: InvalidNodeTypeError"),
+            (lambda: found.select_node(loose), "select_node: 4 <c> has no parent, in which a range could start or end: InvalidNodeTypeError"),
+            (lambda: document.adopt_node(document), "adopt_node: 0 <#document> is a Document, which cannot be moved or copied into another: NotSupportedError"),
+            (lambda: found.compare_boundary_points(7, found), "compare_boundary_points: how is 7, and has to be from 0 to 3: NotSupportedError"),
+            (lambda: found.compare_point(loose, 0), "compare_point: 4 <c> is in another tree than range 0: WrongDocumentError"),
+            (lambda: self.text.discard(), "discard: 3 <#text> is a child of 2 <b>: remove it first: in-use"),
+            (lambda: h.CharacterData.append_data(self.a, "x"), "append_data: 1 <a> is of another kind than this call is for: TypeError"),
+            (lambda: self.session.create_mutation_observer().observe(self.a), "observe: the options for 1 <a> select none of child_list, attributes and character_data, or contradict each other: TypeError"),
         ):
             self.assertEqual(self.said(use), due)
 
     def test_gone(self):
         self.text.remove()
         self.text.discard()
-        due = "data: there is no node 3, it was discarded or never made: no-such-object"
+        due = "data: there is no node 3: it was discarded, or never made: no-such-object"
         self.assertEqual(self.said(lambda: self.text.data), due)
         self.assertEqual(self.said(lambda: self.a.append_child(self.text)), due.replace("data", "append_child"))
-        self.assertEqual(self.said(lambda: self.session.mutation_observer(9)), "mutation_observer: there is no observer 9, it was released or never made: no-such-object")
+        self.assertEqual(self.said(lambda: self.session.mutation_observer(9)), "mutation_observer: there is no observer 9: it was released, or never made: no-such-object")
         found = self.document.create_range()
         found.release()
-        self.assertEqual(self.said(lambda: found.start_offset), "range: there is no range 0, it was released or never made: no-such-object")
+        self.assertEqual(self.said(lambda: found.start_offset), "range: there is no range 0: it was released, or never made: no-such-object")
         self.assertIn("closed", self.said(lambda: (self.session.close(), self.a.tag_name)))
 
     def test_doctypes_in_ranges(self):
         doctype, found = self.document.create_document_type("html"), self.document.create_range()
         self.document.insert_before(doctype, self.a)
         found.select_node_contents(self.document)
-        self.assertEqual(self.said(found.extract_contents), "extract_contents: range 0 holds a doctype: HierarchyRequestError")
+        self.assertEqual(self.said(found.extract_contents), "extract_contents: range 0 contains a doctype, which no fragment can have: HierarchyRequestError")
 
     def test_nothing_changes(self):
         before = self.document.tree()

@@ -6,19 +6,26 @@ use std::fmt;
 pub type Result<T> = std::result::Result<T, Exception>;
 
 macro_rules! exceptions {
-    ($($(#[$doc:meta])* $name:ident, $status:ident, $word:literal;)*) => {
+    ($($name:ident, $status:ident, $word:literal, $meaning:literal;)*) => {
         /// Why a command was refused. A command that was refused changed nothing.
         #[derive(Clone, Copy, Debug, PartialEq, Eq, Hash)]
         #[non_exhaustive]
         pub enum Exception {
-            $($(#[$doc])* $name,)*
+            $(#[doc = concat!("`", $word, "`: ", $meaning, ".")] $name,)*
         }
 
         impl Exception {
-            /// How the exception is printed in the reply to a line.
+            /// Returns the word of the exception in the reply to a line.
             pub const fn name(self) -> &'static str {
                 match self {
                     $(Exception::$name => $word,)*
+                }
+            }
+
+            /// Returns what is wrong, in words.
+            pub const fn meaning(self) -> &'static str {
+                match self {
+                    $(Exception::$name => $meaning,)*
                 }
             }
 
@@ -34,50 +41,30 @@ macro_rules! exceptions {
 }
 
 exceptions! {
-    /// An offset is past the end, by the standard.
-    IndexSizeError, HP_INDEX_SIZE_ERROR, "IndexSizeError";
-    /// The node may not stand there, by the standard.
-    HierarchyRequestError, HP_HIERARCHY_REQUEST_ERROR, "HierarchyRequestError";
-    /// The objects are in trees of different roots, by the standard.
-    WrongDocumentError, HP_WRONG_DOCUMENT_ERROR, "WrongDocumentError";
-    /// A name has a character that it may not have, by the standard.
-    InvalidCharacterError, HP_INVALID_CHARACTER_ERROR, "InvalidCharacterError";
-    /// The object is not found there, by the standard.
-    NotFoundError, HP_NOT_FOUND_ERROR, "NotFoundError";
-    /// This cannot be done, by the standard.
-    NotSupportedError, HP_NOT_SUPPORTED_ERROR, "NotSupportedError";
-    /// The object is in no state for this, by the standard.
-    InvalidStateError, HP_INVALID_STATE_ERROR, "InvalidStateError";
-    /// The node is of a type that this cannot have, by the standard.
-    InvalidNodeTypeError, HP_INVALID_NODE_TYPE_ERROR, "InvalidNodeTypeError";
-    /// A node of the wrong kind, or options that do not go together.
-    TypeError, HP_TYPE_ERROR, "TypeError";
-    /// There is no object of that number.
-    NoSuchObject, HP_NO_SUCH_OBJECT, "no-such-object";
-    /// There is no number left for a new object.
-    Limit, HP_LIMIT, "limit";
-    /// What was to be discarded is still referred to.
-    InUse, HP_IN_USE, "in-use";
-    /// A line is longer than the session takes.
-    LineTooLong, HP_LINE_TOO_LONG, "line-too-long";
-    /// A line is no JSON.
-    BadJson, HP_BAD_JSON, "bad-json";
-    /// A line has no command's name.
-    BadCommand, HP_BAD_COMMAND, "bad-command";
-    /// A line has other arguments than its command.
-    BadArguments, HP_BAD_ARGUMENTS, "bad-arguments";
-    /// Out of memory. A question, or a call that makes an object, has changed nothing, and the session goes on. Else it has ended, now or
-    /// before: it can still be read and serialized.
-    OutOfMemory, HP_OUT_OF_MEMORY, "out-of-memory";
-    /// The limits of a session are out of their range.
-    BadLimits, HP_BAD_LIMITS, "bad-limits";
-    /// A name in a list is longer than 4294967295 bytes.
-    BadLengths, HP_BAD_LENGTHS, "bad-lengths";
+    IndexSizeError, HP_INDEX_SIZE_ERROR, "IndexSizeError", "an offset is greater than the length";
+    HierarchyRequestError, HP_HIERARCHY_REQUEST_ERROR, "HierarchyRequestError", "the node cannot be inserted there";
+    WrongDocumentError, HP_WRONG_DOCUMENT_ERROR, "WrongDocumentError", "the objects are in trees of different roots";
+    InvalidCharacterError, HP_INVALID_CHARACTER_ERROR, "InvalidCharacterError", "a name has a character that it may not have";
+    NotFoundError, HP_NOT_FOUND_ERROR, "NotFoundError", "the node is not a child of this one";
+    NotSupportedError, HP_NOT_SUPPORTED_ERROR, "NotSupportedError", "a Document cannot be used here, or a number is not one of the choices";
+    InvalidStateError, HP_INVALID_STATE_ERROR, "InvalidStateError", "the range partially contains a node that is not a Text";
+    InvalidNodeTypeError, HP_INVALID_NODE_TYPE_ERROR, "InvalidNodeTypeError", "a node of this kind cannot be used here";
+    TypeError, HP_TYPE_ERROR, "TypeError", "the node is of the wrong kind, or options contradict each other";
+    NoSuchObject, HP_NO_SUCH_OBJECT, "no-such-object", "there is no object of this number: it was discarded, released or never made";
+    Limit, HP_LIMIT, "limit", "the session has no number left for a new object";
+    InUse, HP_IN_USE, "in-use", "the tree has a parent, or something still refers to a node in it";
+    LineTooLong, HP_LINE_TOO_LONG, "line-too-long", "the line is longer than the session allows";
+    BadJson, HP_BAD_JSON, "bad-json", "the line is not JSON";
+    BadCommand, HP_BAD_COMMAND, "bad-command", "the line does not begin with the name of a command";
+    BadArguments, HP_BAD_ARGUMENTS, "bad-arguments", "the line has other arguments than its command";
+    OutOfMemory, HP_OUT_OF_MEMORY, "out-of-memory", "out of memory: nothing has changed, and the session goes on; or it has ended, and can still be read and serialized";
+    BadLimits, HP_BAD_LIMITS, "bad-limits", "the limits of the session are out of their range";
+    BadLengths, HP_BAD_LENGTHS, "bad-lengths", "a name in a list is longer than 4294967295 bytes";
 }
 
 impl fmt::Display for Exception {
     fn fmt(&self, to: &mut fmt::Formatter<'_>) -> fmt::Result {
-        to.write_str(self.name())
+        write!(to, "{}: {}", self.name(), self.meaning())
     }
 }
 

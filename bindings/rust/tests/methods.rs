@@ -119,7 +119,7 @@ fn a_session_goes_to_another_thread() {
 #[test]
 fn exceptions_are_errors() {
     let refused: Box<dyn std::error::Error> = Box::new(Exception::HierarchyRequestError);
-    assert_eq!(refused.to_string(), "HierarchyRequestError");
+    assert_eq!(refused.to_string(), "HierarchyRequestError: the node cannot be inserted there");
 }
 
 #[test]

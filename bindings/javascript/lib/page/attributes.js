@@ -23,7 +23,7 @@ import {
   pageOf,
   realmOf,
   refuse,
-  refuseType,
+  refuseOther,
   small,
   stillNodeList,
   thingOf,
@@ -171,7 +171,7 @@ function toggleAttribute(element, qualified, force) {
 
 function setAttributeNode(element, attr) {
   const its = attrOf(attr);
-  if (its.element !== null && its.element !== element) refuse("InUseAttributeError", "the attribute is one of another element");
+  if (its.element !== null && its.element !== element) refuse("InUseAttributeError", "the attribute belongs to another element: remove it there first");
   const { namespace, local, qualified } = its.name;
   const there = byNamespace(element, namespace, local);
   const old = there ? attrFor(element, there) : null;
@@ -188,7 +188,7 @@ function setAttributeNode(element, attr) {
 
 function removeAttributeNode(element, attr) {
   const its = attrOf(attr);
-  if (its.element !== element) refuse("NotFoundError", "the attribute is none of this element");
+  if (its.element !== element) refuse("NotFoundError", "the attribute does not belong to this element");
   removeAttributeNS(element, its.name.namespace, its.name.local);
   return attr;
 }
@@ -364,7 +364,7 @@ function created(document, give) {
 
 const [, comparePosition] = Node.operations.compareDocumentPosition;
 
-convertible("Node or Attr", (value) => (isNode(value) || isAttr(value) ? value : refuseType("this is no Node")));
+convertible("Node or Attr", (value) => (isNode(value) || isAttr(value) ? value : refuseOther("a Node or Attr", value)));
 convertible("Node or Attr?", (value) => (value === null || value === undefined ? null : converted("Node or Attr", value)));
 
 /** A question of a node about another, which an Attr answers in its own way. */

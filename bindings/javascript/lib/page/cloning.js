@@ -19,6 +19,6 @@ function hasOfPage(value, seen = new Set()) {
 
 /** A copy of a value. */
 export function cloned(realm, value, options) {
-  if (hasOfPage(value)) throw new realm.interfaces.DOMException("an object of a page has no copy", "DataCloneError");
+  if (hasOfPage(value)) throw new realm.interfaces.DOMException("an object of a page cannot be copied", "DataCloneError");
   return structuredClone(value, options);
 }

@@ -47,7 +47,7 @@ export const eventOf = (it) => thingOf(it, EventIs);
 convertible("long", (value) => converted("unsigned long", value) | 0);
 convertible("double", (value) => {
   const number = Number(value);
-  return Number.isFinite(number) ? number : refuseType("this is no finite number");
+  return Number.isFinite(number) ? number : refuseType(`${number} is not a finite number`);
 });
 
 // ---- The members of each event, with their types and what they are where a dictionary has none.
@@ -165,7 +165,7 @@ const CREATED = {
 
 export function createEvent(realm, word) {
   const name = CREATED[word.toLowerCase()];
-  if (!name) refuse("NotSupportedError", `there is no event ${word} to be made so`);
+  if (!name) refuse("NotSupportedError", `createEvent cannot make an event '${word}': use its constructor`);
   const its = new EventIs("", NO_INIT, readInto({}, {}, membersOf(name)));
   its.isInitialized = false;
   return made(realm, name, its);

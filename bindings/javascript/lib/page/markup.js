@@ -84,7 +84,7 @@ const contextOf = (document, it) => (it === null || !isElement(it) || (isOfHtml(
 function setOuter(element, text) {
   const parent = parentOf(element);
   if (parent === null) return;
-  if (isOfKind(parent, DOCUMENT)) refuse("NoModificationAllowedError", "the root element can not be replaced so");
+  if (isOfKind(parent, DOCUMENT)) refuse("NoModificationAllowedError", "the root element cannot be replaced by outerHTML");
   parent.replaceChild(fragmentOf(isElement(parent) ? parent : documentOf(element).createElement("body"), text), element);
 }
 
@@ -98,9 +98,9 @@ const PLACES = {
 
 function insertAdjacentHTML(element, where, text) {
   const place = PLACES[where.toLowerCase()];
-  if (!place) refuse("SyntaxError", "there is no such place");
+  if (!place) refuse("SyntaxError", `'${where}' is not one of ${Object.keys(PLACES).join(", ")}`);
   const context = place.isOutside ? parentOf(element) : element;
-  if (context === null || isOfKind(context, DOCUMENT)) refuse("NoModificationAllowedError", "nothing may stand beside the element");
+  if (context === null || isOfKind(context, DOCUMENT)) refuse("NoModificationAllowedError", "the element has no parent, or is the root element: nothing can be inserted beside it");
   place.put(element, fragmentOf(contextOf(documentOf(element), context), text));
 }
 
@@ -157,7 +157,7 @@ function ofXML(realm, text, type) {
 
 function parseFromString({ realm }, text, type) {
   if (XML_TYPES.includes(type)) return ofXML(realm, text, type);
-  if (type !== "text/html") refuseType(`there is no parser of ${type}`);
+  if (type !== "text/html") refuseType(`there is no parser of '${type}': only of 'text/html'`);
   const made = emptied(realm.document.implementation.createHTMLDocument(""));
   documentKnown(made).url = realm.document.URL;
   return parse(text, { document: made });

@@ -75,7 +75,7 @@ function parsedURL(text, base) {
   try {
     return new URL(text, base);
   } catch {
-    return refuse("SyntaxError", `'${text}' is no address`);
+    return refuse("SyntaxError", `'${text}' is not a valid URL`);
   }
 }
 
@@ -123,7 +123,7 @@ function put(isReplacing) {
   return (it, state, unused, text) => {
     const places = placesOf(it);
     const url = text === null ? places.url : parsedURL(text, places.page.document.baseURI);
-    if (url.origin !== places.url.origin) refuse("SecurityError", "the address is of another origin");
+    if (url.origin !== places.url.origin) refuse("SecurityError", `${url.href} is of another origin than ${places.url.origin}`);
     places.put({ url, state: cloned(places.page.realm, state) }, isReplacing);
   };
 }

@@ -54,8 +54,8 @@ function end(name, isAnchor) {
 const hasPlace = (its, node) => node.getRootNode() === its.document;
 
 function checkOffset(node, offset) {
-  if (node.nodeType === 10) refuse("InvalidNodeTypeError", "a doctype has no places");
-  if (offset > lengthOf(node)) refuse("IndexSizeError", "the offset is past the end");
+  if (node.nodeType === 10) refuse("InvalidNodeTypeError", "the selection cannot start or end in a doctype");
+  if (offset > lengthOf(node)) refuse("IndexSizeError", `the offset ${offset} is greater than the length ${lengthOf(node)}`);
 }
 
 function rangeAt(its, node, offset) {
@@ -113,19 +113,19 @@ function addRange(selection, range) {
 
 function removeRange(selection, range) {
   const its = selectionOf(selection);
-  if (its.range !== range) refuse("NotFoundError", "the range is not the one that is selected");
+  if (its.range !== range) refuse("NotFoundError", "the range is not the selection's");
   its.select(null);
 }
 
 function getRangeAt(selection, index) {
   const { here } = selectionOf(selection);
-  if (index !== 0 || !here) refuse("IndexSizeError", "there is no such range");
+  if (index !== 0 || !here) refuse("IndexSizeError", `there is no range ${index}: ${here ? "only 0" : "nothing is selected"}`);
   return here;
 }
 
 function selectAllChildren(selection, node) {
   const its = selectionOf(selection);
-  if (node.nodeType === 10) refuse("InvalidNodeTypeError", "a doctype has no children");
+  if (node.nodeType === 10) refuse("InvalidNodeTypeError", "a doctype has no children to select");
   if (hasPlace(its, node)) between(its, node, 0, node, node.childNodes.length);
 }
 

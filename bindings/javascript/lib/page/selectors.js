@@ -65,7 +65,7 @@ function made(text, mode) {
   try {
     return new Selector(text, mode);
   } catch (fault) {
-    if (fault instanceof NoSelector) return refuse("SyntaxError", `'${text}' is no selector: ${fault.message}`);
+    if (fault instanceof NoSelector) return refuse("SyntaxError", `'${text}' is not a valid selector: ${fault.message}`);
     if (fault instanceof Missing) return refuse("NotSupportedError", fault.message);
     throw fault;
   }

@@ -1,5 +1,5 @@
 /** EventTarget: listeners, and dispatch as the standard's algorithm goes (DOM Standard, section 2.9), without shadow trees. */
-import { convertible, documentOf, DOCUMENT, isNode, keptOf, kindOf, known, makeThing, pageOf, pageOfRealm, parentOf, refuse, refuseType, thingOf } from "./core.js";
+import { convertible, documentOf, DOCUMENT, isNode, keptOf, kindOf, known, makeThing, pageOf, pageOfRealm, parentOf, refuse, refuseOther, thingOf } from "./core.js";
 import { activationOf } from "./activation.js";
 import { AT_TARGET, BUBBLING_PHASE, CAPTURING_PHASE, eventOf, NONE } from "./events.js";
 
@@ -23,7 +23,7 @@ export const alsoTarget = (is) => others.push(is);
 const isTarget = (it) => isNode(it) || isWindow(it) || thingOf(it, TargetIs) !== undefined || others.some((is) => is(it));
 
 function orNull(is, name) {
-  return (value) => (value === null || value === undefined ? null : is(value) ? value : refuseType(`this is no ${name}`));
+  return (value) => (value === null || value === undefined ? null : is(value) ? value : refuseOther(`an object ${name}`, value));
 }
 
 convertible("EventTarget?", orNull(isTarget, "EventTarget"));
@@ -117,14 +117,14 @@ function listenersToAdd(target, type) {
 
 const isObject = (value) => (typeof value === "object" && value !== null) || typeof value === "function";
 
-convertible("EventListener?", (value) => (value === null || value === undefined ? null : isObject(value) ? value : refuseType("a listener is a function or an object")));
+convertible("EventListener?", (value) => (value === null || value === undefined ? null : isObject(value) ? value : refuseOther("a listener as a function or an object", value)));
 
 const captureOf = (options) => (isObject(options) ? Boolean(options.capture) : Boolean(options));
 
 function signalOf(options) {
   const { signal } = options;
   if (signal === undefined) return null;
-  if (!isObject(signal) || typeof signal.aborted !== "boolean") refuseType("this is no AbortSignal");
+  if (!isObject(signal) || typeof signal.aborted !== "boolean") refuseOther("an AbortSignal", signal);
   return signal;
 }
 
@@ -297,7 +297,7 @@ export function dispatch(target, event) {
 /** Dispatches an event of a program's. */
 function dispatchGiven(target, event) {
   const its = eventOf(event);
-  if (its.isDispatched || !its.isInitialized) refuse("InvalidStateError", "the event is on its way, or was not initialized");
+  if (its.isDispatched || !its.isInitialized) refuse("InvalidStateError", "the event is being dispatched, or was not initialized");
   its.isTrusted = false;
   return dispatch(target, event);
 }

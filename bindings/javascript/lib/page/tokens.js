@@ -38,14 +38,14 @@ class TokensAre {
 const tokensOf = (it) => knownOf(it, TokensAre);
 
 function checked(tokens) {
-  if (tokens.includes("")) refuse("SyntaxError", "a token is not empty");
-  for (const it of tokens) if (isBlank(it)) refuse("InvalidCharacterError", "a token has no white space");
+  if (tokens.includes("")) refuse("SyntaxError", "a token may not be empty");
+  for (const it of tokens) if (isBlank(it)) refuse("InvalidCharacterError", `the token '${it}' has white space`);
   return tokens;
 }
 
 function checkedOne(token) {
-  if (token === "") refuse("SyntaxError", "a token is not empty");
-  if (isBlank(token)) refuse("InvalidCharacterError", "a token has no white space");
+  if (token === "") refuse("SyntaxError", "a token may not be empty");
+  if (isBlank(token)) refuse("InvalidCharacterError", `the token '${token}' has white space`);
 }
 
 function add(list, ...given) {
@@ -170,7 +170,7 @@ class DataAre {
 /** (a trap throws to the program by itself) */
 function refuseWord(element, name) {
   const { DOMException } = realmOf(element).interfaces;
-  throw new DOMException(`'${name}' is no name of a data attribute`, "SyntaxError");
+  throw new DOMException(`'${name}' is not a valid name of a data attribute`, "SyntaxError");
 }
 
 export const DOMStringMap = known({ name: "DOMStringMap", is: (it) => knownOf(it, DataAre) !== undefined });

@@ -76,7 +76,7 @@ function timers(page) {
     }
   };
   const start = (begin, isOnce) => (handler, wait = 0, ...values) => {
-    if (typeof handler !== "function") throw new page.realm.global.TypeError("a timer's handler is a function");
+    if (typeof handler !== "function") throw new page.realm.global.TypeError(`expected a function as the timer's handler, not ${typeof handler}`);
     const does = guarded(handler, values);
     const timer = begin(isOnce ? () => void (running.delete(Number(timer)), does()) : does, wait);
     running.add(Number(timer));

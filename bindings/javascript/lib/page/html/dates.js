@@ -1,5 +1,5 @@
 /** Inputs of dates and times as Dates of UTC: `valueAsDate` (HTML Standard, section 4.10.5.4). */
-import { realmOf, refuse, refuseType } from "../core.js";
+import { realmOf, refuse, refuseOther } from "../core.js";
 
 const DAY = 86400000;
 const two = (number) => `${number}`.padStart(2, "0");
@@ -50,9 +50,9 @@ function get(input) {
 }
 
 function set(input, given) {
-  if (given !== null && Object.prototype.toString.call(given) !== "[object Date]") refuseType("this is no Date");
+  if (given !== null && Object.prototype.toString.call(given) !== "[object Date]") refuseOther("a Date", given);
   const kind = kindOf(input);
-  if (!kind) refuse("InvalidStateError", `an input of type ${input.type} has no date`);
+  if (!kind) refuse("InvalidStateError", `an input of type '${input.type}' has no date`);
   input.value = given === null || Number.isNaN(Number(given)) ? "" : kind[1](new Date(Number(given)));
 }
 

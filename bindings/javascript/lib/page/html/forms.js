@@ -93,7 +93,7 @@ const METHODS = ["get", "post", "dialog"];
 const ENCODINGS = ["application/x-www-form-urlencoded", "multipart/form-data", "text/plain"];
 
 function requestOf(form, submitter) {
-  if (submitter !== null && formOf(submitter) !== form) refuse("NotFoundError", "the button is none of the form");
+  if (submitter !== null && formOf(submitter) !== form) refuse("NotFoundError", "the button does not belong to this form");
   requestSubmit(form, submitter);
 }
 

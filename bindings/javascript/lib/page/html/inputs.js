@@ -1,5 +1,5 @@
 /** Inputs (HTML Standard, section 4.10.5): values by their types, boxes, and what is selected of a text. */
-import { convertible, pageOf, realmOf, refuse, refuseType } from "../core.js";
+import { convertible, pageOf, realmOf, refuse, refuseOther, refuseType } from "../core.js";
 import { dateNumber, hasDate, setDateNumber, valueAsDate } from "./dates.js";
 import { flags, oneOf, sending, text, texts, url, whole } from "./reflect.js";
 import { formOf, isNamed, stateOf } from "./states.js";
@@ -73,7 +73,7 @@ const VALUES = {
   on: { get: (input) => input.getAttribute("value") ?? "on", set: (input, value) => input.setAttribute("value", value) },
   file: {
     get: () => "",
-    set: (input, value) => void (value === "" || refuse("InvalidStateError", "the value of a file's input can only be emptied")),
+    set: (input, value) => void (value === "" || refuse("InvalidStateError", "the value of an input of type 'file' can only be set to ''")),
   },
 };
 
@@ -157,7 +157,7 @@ function choose(control, start, end, direction) {
 }
 
 function setSelectionRange(control, start, end, direction) {
-  if (!canSelect(control)) refuse("InvalidStateError", "nothing can be selected of an input of this type");
+  if (!canSelect(control)) refuse("InvalidStateError", `an input of type '${control.type}' has no selection`);
   choose(control, start, end, direction);
 }
 
@@ -181,12 +181,12 @@ const SELECTED_AFTER = {
   preserve: ({ start, end }, part) => [moved(start, part, part.from), moved(end, part, part.newTo)],
 };
 
-convertible("SelectionMode", (word) => (Object.hasOwn(SELECTED_AFTER, `${word}`) ? `${word}` : refuseType(`${String(word)} is no way to select`)));
+convertible("SelectionMode", (word) => (Object.hasOwn(SELECTED_AFTER, `${word}`) ? `${word}` : refuseType(`'${String(word)}' is not one of ${Object.keys(SELECTED_AFTER).join(", ")}`)));
 
 function setRangeText(control, replacement, ...[start, end, mode]) {
-  if (!canSelect(control)) refuse("InvalidStateError", "nothing can be selected of an input of this type");
+  if (!canSelect(control)) refuse("InvalidStateError", `an input of type '${control.type}' has no selection`);
   const its = selectionOf(control);
-  if (start > end) refuse("IndexSizeError", "the start is behind the end");
+  if (start > end) refuse("IndexSizeError", `the start ${start} is after the end ${end}`);
   const [from, to] = [start ?? its.start, end ?? its.end].map((at) => Math.min(at, lengthOf(control)));
   const before = control.value;
   control.value = before.slice(0, from) + replacement + before.slice(to);
@@ -210,7 +210,7 @@ export const textSelection = {
 /** Puts files there that a program has: a list of any kind. */
 function setFiles(input, files) {
   if (files === null || files === undefined) return;
-  if (typeof files !== "object") refuseType("this is no list of files");
+  if (typeof files !== "object") refuseOther("a list of files", files);
   if (input.type === "file") stateOf(input).files = files;
 }
 
@@ -221,7 +221,7 @@ const asNumber = (input) => (hasDate(input) ? dateNumber(input) : numberOf(input
 function setNumber(input, number) {
   if (hasDate(input)) return setDateNumber(input, number);
   if (!isNumeric(input)) refuse("InvalidStateError", `an input of type ${input.type} has no number`);
-  if (Math.abs(number) === Infinity) refuseType("an infinite number is no value");
+  if (Math.abs(number) === Infinity) refuseType(`${number} is not a finite number`);
   return value.set(input, Number.isNaN(number) ? "" : `${number}`);
 }
 

@@ -39,7 +39,7 @@ const zero = () => 0;
 const loop = {
   ...whole("loop", -1, 1),
   set(marquee, value) {
-    if (value < 1 && value !== -1) refuse("IndexSizeError", `a marquee does not go through ${value} times`);
+    if (value < 1 && value !== -1) refuse("IndexSizeError", `loop has to be at least 1 or -1, not ${value}`);
     marquee.setAttribute("loop", `${value}`);
   },
 };

@@ -1,5 +1,5 @@
 /** Media elements of a page without a network (HTML Standard, section 4.8.11): nothing is ever loaded, so each answers as one with no resource does. */
-import { keptOf, realmOf, refuse, refuseType } from "../core.js";
+import { keptOf, realmOf, refuse, refuseOther } from "../core.js";
 import { flags, oneOf, urls } from "./reflect.js";
 
 /** The settings of an element that its attributes do not have. */
@@ -24,7 +24,7 @@ const volume = {
   type: "double",
   get: (media) => settingsOf(media).volume,
   set(media, value) {
-    if (value < 0 || value > 1) refuse("IndexSizeError", `a volume is from 0 to 1, and ${value} is not`);
+    if (value < 0 || value > 1) refuse("IndexSizeError", `the volume ${value} is not from 0 to 1`);
     settingsOf(media).volume = value;
   },
 };
@@ -33,7 +33,7 @@ const srcObject = {
   type: "any",
   get: (media) => settingsOf(media).srcObject,
   set(media, value) {
-    if (typeof (value ?? null) !== "object") refuseType("this is no source of media");
+    if (typeof (value ?? null) !== "object") refuseOther("a source of media", value);
     settingsOf(media).srcObject = value ?? null;
   },
 };

@@ -154,7 +154,7 @@ const contentEditable = {
   set(element, value) {
     const word = value.toLowerCase();
     if (word === "inherit") return element.removeAttribute("contenteditable");
-    if (!["true", "false", "plaintext-only"].includes(word)) refuse("SyntaxError", `${value} is no way to be edited`);
+    if (!["true", "false", "plaintext-only"].includes(word)) refuse("SyntaxError", `'${value}' is not one of true, false, plaintext-only, inherit`);
     return element.setAttribute("contenteditable", word);
   },
 };
@@ -187,7 +187,7 @@ function renderedText(element, value) {
 
 function setOuterText(element, value) {
   const { previousSibling: previous, nextSibling: next, parentNode } = element;
-  if (!parentNode) refuse("NoModificationAllowedError", "the element has no parent");
+  if (!parentNode) refuse("NoModificationAllowedError", "the element has no parent, in which it could be replaced");
   const fragment = renderedText(element, value);
   if (!fragment.firstChild) fragment.append("");
   element.replaceWith(fragment);

@@ -40,7 +40,7 @@ export const whole = (name, absent = 0, least = -Infinity) => ({
     return found === null || found < least ? absent : found;
   },
   set(element, value) {
-    if (value < least) refuse("IndexSizeError", `${name} is at least ${least}`);
+    if (value < least) refuse("IndexSizeError", `${name} has to be at least ${least}, not ${value}`);
     element.setAttribute(name, `${value}`);
   },
 });

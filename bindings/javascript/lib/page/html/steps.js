@@ -57,7 +57,7 @@ function stepped(before, count, steps, { least, most }) {
 export function step(sign) {
   return (input, count) => {
     const steps = isNumeric(input) ? stepsOf(input) : null;
-    if (steps === null) refuse("InvalidStateError", "this input has no steps");
+    if (steps === null) refuse("InvalidStateError", "an input of this type has no steps");
     const bounds = boundsOf(input);
     if (bounds.least > bounds.most || aligned(bounds.least, steps, Math.ceil) > bounds.most) return;
     const before = Number.isNaN(numberOf(input)) ? 0 : numberOf(input);

@@ -1,5 +1,5 @@
 /** Tables, their sections, rows and cells (HTML Standard, section 4.9), as far as they are lists and makers of elements. */
-import { refuse, refuseType } from "../core.js";
+import { refuse, refuseOther } from "../core.js";
 import { listOf } from "./collections.js";
 import { isNamed } from "./states.js";
 
@@ -13,21 +13,23 @@ function rowsOf(table) {
   return [...childrenOf(table, "thead").flatMap(rows), ...body, ...childrenOf(table, "tfoot").flatMap(rows)];
 }
 
+const refuseIndex = (index, most) => refuse("IndexSizeError", `the index ${index} is not from -1 to ${most}`);
+
 function insertAt(list, parent, index, name) {
-  if (index < -1 || index > list.length) refuse("IndexSizeError", "there is no such place");
+  if (index < -1 || index > list.length) refuseIndex(index, list.length);
   const made = parent.ownerDocument.createElement(name);
   return parent.insertBefore(made, index === -1 ? null : (list[index] ?? null));
 }
 
 function deleteAt(list, index) {
   const at = index === -1 ? list.length - 1 : index;
-  if (index < -1 || index >= list.length) refuse("IndexSizeError", "there is no such place");
+  if (index < -1 || index >= list.length) refuseIndex(index, list.length - 1);
   list[at]?.remove();
 }
 
 function insertRow(table, index) {
   const rows = rowsOf(table);
-  if (index < -1 || index > rows.length) refuse("IndexSizeError", "there is no such place");
+  if (index < -1 || index > rows.length) refuseIndex(index, rows.length);
   const section = rows.length ? rows[Math.min(index === -1 ? rows.length : index, rows.length - 1)].parentNode : (childrenOf(table, "tbody").at(-1) ?? createSection(table, "tbody"));
   const made = table.ownerDocument.createElement("tr");
   return section.insertBefore(made, index === -1 || index === rows.length ? null : (rows[index] ?? null));
@@ -50,8 +52,8 @@ const replacing = (name, before) => ({
   get: (table) => firstOf(table, name),
   set(table, given) {
     const its = given ?? null;
-    if (its !== null && !isNamed(its, "caption", "thead", "tfoot")) refuseType(`this is no ${name}`);
-    if (its !== null && !isNamed(its, name)) refuse("HierarchyRequestError", `this is no ${name}`);
+    if (its !== null && !isNamed(its, "caption", "thead", "tfoot")) refuseOther(`a ${name} element`, its);
+    if (its !== null && !isNamed(its, name)) refuse("HierarchyRequestError", `expected a ${name} element, not ${its.localName}`);
     firstOf(table, name)?.remove();
     if (its !== null) table.insertBefore(its, before(table));
   },

@@ -1,5 +1,5 @@
-// Milliseconds of processor time that libraries take over a page and over jsdom: `node bench/page.js [--times N] [--turns N] [--scene NAME]`, with NODE_PATH
-// at the folder that has the libraries (Debian's: /usr/share/nodejs).
+// Milliseconds of processor time that libraries take over a page and over jsdom: `node bench/javascript/page.js [--times N] [--turns N] [--scene NAME]`,
+// with NODE_PATH at the folder that has the libraries (Debian's: /usr/share/nodejs).
 //
 // Each scene of the page's tests is run a few times by each, in turn, and each time in a process of its own. Told are medians: of what it takes until there
 // is a window, of the first turn of a process, of the next few, and of the last ones, when the engine has compiled what runs. The time is that of the thread
@@ -8,8 +8,8 @@ import { spawnSync } from "node:child_process";
 import { fileURLToPath } from "node:url";
 import { parseArgs } from "node:util";
 
-import { installed, NEEDED } from "../tests/page/players.js";
-import { SCENES } from "../tests/page/libraries/scenes.js";
+import { installed, NEEDED } from "../../bindings/javascript/tests/page/players.js";
+import { SCENES } from "../../bindings/javascript/tests/page/libraries/scenes.js";
 
 const HELP = `Milliseconds of processor time that libraries take over a page and over jsdom.
 
@@ -28,7 +28,7 @@ const OPTIONS = {
   help: { type: "boolean" },
 };
 
-const RUN = fileURLToPath(new URL("../tests/page/libraries/run.js", import.meta.url));
+const RUN = fileURLToPath(new URL("../../bindings/javascript/tests/page/libraries/run.js", import.meta.url));
 const PLAYERS = ["page", "jsdom"];
 /** Which turns of a process are told, by the name of the column. */
 const TOLD = { "first turn": [0, 1], "turns 2 to 5": [1, 5], "last 5 turns": [-5, undefined] };

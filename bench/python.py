@@ -8,13 +8,14 @@ python3-bs4 and python3-soupsieve.
 import argparse
 import copy
 import gc
+import os
 import sys
 import time
 from xml.dom import minidom
 
-HERE = __file__.rpartition("/")[0] or "."
+ROOT = os.path.dirname(os.path.dirname(os.path.abspath(__file__)))
 sys.dont_write_bytecode = True
-sys.path.insert(0, HERE)
+sys.path.insert(0, os.path.join(ROOT, "bindings/python"))
 
 import bs4
 import html5lib

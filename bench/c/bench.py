@@ -11,7 +11,9 @@ import subprocess
 import sys
 import tempfile
 
-from make import HERE, make, words_of
+HERE = os.path.dirname(os.path.abspath(__file__))
+sys.path.insert(0, os.path.join(os.path.dirname(os.path.dirname(HERE)), "bindings/c"))
+from make import make, words_of
 
 STRICT = ["-std=c11", "-O2", "-Wall", "-Wextra", "-Werror"]
 
@@ -84,7 +86,7 @@ def main():
     parser.add_argument("--instructions", action="store_true", help="count instructions, by valgrind, in place of nanoseconds")
     given = parser.parse_args()
     if given.count < 100 or given.times < 1:
-        parser.error("a scene has at least 100, and is run at least once")
+        parser.error(f"--count has to be at least 100 and --times at least 1, not {given.count} and {given.times}")
     folder, _ = make(given)
     with tempfile.TemporaryDirectory() as work:
         ours = compiled(given, "bench", work, f"-I{folder}", os.path.join(folder, "libhuckleport.a"))

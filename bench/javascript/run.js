@@ -1,5 +1,5 @@
 // Nanoseconds of processor time a step of scenes, by this package and by jsdom where that is there, with NODE_PATH at the folder that has jsdom
-// (Debian's node-jsdom: /usr/share/nodejs): `node bench/run.js [--count N] [--times N] [--scene NAME]`.
+// (Debian's node-jsdom: /usr/share/nodejs): `node bench/javascript/run.js [--count N] [--times N] [--scene NAME]`.
 //
 // Each scene has a process of its own, in which both run it in turn, each time over things that are made anew, until its time is over. Told is the quickest
 // run of each, in which the engine has compiled what is hot, and beside it how the first runs compare, most of which is compiling. The ratio is jsdom's
@@ -43,8 +43,8 @@ function found(name) {
 /** A window of each, with how it reads and writes HTML; ours is a page where the scene needs one. */
 const WINDOWS = {
   huckleport: async ({ needsPage = false }) => {
-    const { createWindow, parse, serialize } = await import("../lib/index.js");
-    const window = needsPage ? (await import("../lib/page/index.js")).createPage() : createWindow();
+    const { createWindow, parse, serialize } = await import("../../bindings/javascript/lib/index.js");
+    const window = needsPage ? (await import("../../bindings/javascript/lib/page/index.js")).createPage() : createWindow();
     return Object.assign(window, { serializing: (node) => () => serialize(node), parsing: (text) => parse(text) });
   },
   jsdom: async () => {

@@ -13,7 +13,7 @@ import time
 import uuid
 
 sys.dont_write_bytecode = True
-sys.path.insert(0, os.path.join(os.path.dirname(os.path.abspath(__file__)), "tests"))
+sys.path.insert(0, os.path.join(os.path.dirname(os.path.dirname(os.path.abspath(__file__))), "serving/tests"))
 from lines import changes, lines
 from place import PROGRAM, Place
 
@@ -212,7 +212,7 @@ def main():
     given = parser.parse_args()
     for it in given.parts or PARTS:
         if it not in PARTS:
-            parser.error(f"no part is called {it}")
+            parser.error(f"there is no part {it}: the parts are {', '.join(PARTS)}")
         PARTS[it](given)
 
 
