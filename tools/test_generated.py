@@ -194,7 +194,7 @@ class Lacking(OfCopy):
         self.copy.put("bash", f'#!/bin/sh\nexec {shutil.which("bash")} "$@"\n')
         status, out, said = self.copy.run(shutil.which("bash"), "test", "--prove")
         self.assertEqual((status, out), (1, b""))
-        self.assertEqual((said.count("\n"), "there is no rt here" in said), (1, True), said)
+        self.assertEqual((said.count("\n"), "there is no rt on the path" in said), (1, True), said)
 
 
 class Changed(OfCopy):

@@ -99,7 +99,7 @@ class Selectors(unittest.TestCase):
         for it in ("p[", "", ":nonsense", "a >", "::before"):
             with self.assertRaises(h.BadValue) as caught:
                 self.page.select(it)
-            self.assertIn("is no selector", str(caught.exception))
+            self.assertIn("is not a valid selector", str(caught.exception))
 
     def test_classes(self):
         for names in ("a", "a b", "b  a", "box", "none", ""):

@@ -15,7 +15,7 @@ STABLE = set(
     PyExc_AttributeError PyExc_Exception PyExc_ImportError PyExc_KeyError PyExc_OverflowError PyExc_RuntimeError PyExc_TypeError PyExc_ValueError
     PyEval_RestoreThread PyEval_SaveThread PyExc_MemoryError PyUnicode_CompareWithASCIIString PyUnicode_FromFormat
     PyException_SetTraceback PyImport_ImportModule PyIter_Next PyList_Append PyList_GetItem PyList_New PyList_SetItem PyList_SetSlice
-    PyList_Size PyLong_AsUnsignedLong PyLong_AsUnsignedLongLong PyLong_FromLong PyLong_FromSize_t PyLong_FromUnsignedLong PyMem_Free
+    PyList_Size PyLong_AsUnsignedLong PyLong_AsUnsignedLongLong PyLong_FromLong PyLong_FromSize_t PyLong_FromUnsignedLong PyLong_FromUnsignedLongLong PyMem_Free
     PyMem_Malloc PyMem_Realloc PyModuleDef_Init PyModule_AddObject PyModule_GetState PyNumber_Index PyObject_CallFunction
     PyObject_CallFunctionObjArgs PyObject_CallMethodObjArgs PyObject_Free PyObject_GC_Del PyObject_GC_UnTrack PyObject_GetAttr
     PyObject_GetAttrString PyObject_GetIter PyObject_IsSubclass PyObject_IsTrue PyObject_SelfIter PyObject_SetAttrString PySequence_GetItem
