@@ -8,11 +8,11 @@ use Rattle.dom_c.specs.Told.{number_or_null}
 use Rattle.dom_c.specs.declared.notices.Notice.{Notice}
 use Rattle.dom_c.specs.declared.records.Record.{Record}
 
-abbrev pub notice_in : ℕ → model.Answer → Option plain.Told
+abbrev pub notice_in : ℕ → model.Answer → Option plain.Notification
 notice_in n (model.Notified ts) = slice_get ts n
 notice_in n _ = None
 
-abbrev pub notice_told : plain.Told → Notice
+abbrev pub notice_told : plain.Notification → Notice
 notice_told t = record { observer = t.observer; records = length t.records }
 
 abbrev pub notice_at : ℕ → model.Answer → Option Notice
@@ -21,7 +21,7 @@ notice_at n a = option_map notice_told (notice_in n a)
 -- the records of a notice; those that were taken stand as the first
 abbrev pub records_in : ℕ → model.Answer → Option (List plain.Record)
 records_in n (model.Records rs) = if nat_eq n 0 then Some rs else None
-records_in n (model.Notified ts) = option_map (λ (t : plain.Told). t.records) (slice_get ts n)
+records_in n (model.Notified ts) = option_map (λ (t : plain.Notification). t.records) (slice_get ts n)
 records_in n _ = None
 
 abbrev pub record_in : ℕ → ℕ → model.Answer → Option plain.Record

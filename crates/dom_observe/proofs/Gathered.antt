@@ -2,7 +2,7 @@
 use Rattle.std.proofs.Common.{◌≡◌, ℕ, zero, suc, ◌==◌, Bool, true, false, not, if◌then◌else◌, List, [], ◌∷◌, ◌++◌, length, map, filter, take, Some, refl, ap, sym, ◌∙◌, subst, cond, append-nil, nat_eq, slice_set, slice_get, Option}
 use Rattle.std.specs.List.{AllByRecursion, IsDistinct}
 use Rattle.std.proofs.lemmas.{List.map-append, List.Elements.filter-append}
-use Rattle.dom_model.specs.Definitions.{among, Observing, Record, Told, has_records, told_in, queue_of}
+use Rattle.dom_model.specs.Definitions.{among, Observing, Record, Notification, has_records, told_in, queue_of}
 use Rattle.dom_observe.specs.{Watchers.records_at, Kept.has_queue, Notifying.waiting_for}
 use Rattle.dom_observe.proofs.{QueueLists.records-set, EndedOnes.among-last}
 
@@ -55,7 +55,7 @@ module _ (queues0 queues queues' : List (Option (List Record))) (keys : List ℕ
       ∙ filter-append has_records (map (waiting_for queues0) (take i keys)) (waiting_for queues0 o ∷ [])
 
   -- an observer with records is told them, and one without is left out
-  pub told-some : (records : List Record) → records ≡ records_at queues o → (length records == 0) ≡ false → (told : List Told) → told ≡ filter has_records (map (waiting_for queues0) (take i keys))
+  pub told-some : (records : List Record) → records ≡ records_at queues o → (length records == 0) ≡ false → (told : List Notification) → told ≡ filter has_records (map (waiting_for queues0) (take i keys))
       → told ++ record { observer = o; records = records } ∷ [] ≡ filter has_records (map (waiting_for queues0) (take (suc i) keys))
   told-some records is some told before =
       let same_records : records ≡ records_at queues0 o = is ∙ still-waiting in

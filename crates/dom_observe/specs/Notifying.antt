@@ -2,16 +2,16 @@
 use Rattle.std.specs.Prelude.{◌≡◌, ℕ, if◌then◌else◌, List, [], map, filter, Option, is_none}
 use Rattle.dom_model.specs.PlainLists.Lists.{among}
 use Rattle.dom_model.specs.Worlds.World.{Registration}
-use Rattle.dom_model.specs.MutationObservers.Record.{Record, Told}
+use Rattle.dom_model.specs.MutationObservers.Record.{Record, Notification}
 use Rattle.dom_model.specs.MutationObservers.Records.{has_records}
 use Rattle.dom_observe.specs.Watchers.{Watchers, on, records_at}
 
 -- an observer and what is in its queue
-abbrev pub waiting_for : List (Option (List Record)) → ℕ → Told
+abbrev pub waiting_for : List (Option (List Record)) → ℕ → Notification
 waiting_for queues o = record { observer = o; records = records_at queues o }
 
 -- of several observers those for which records wait, in their order, each with all of these
-abbrev pub waiting_in : List (Option (List Record)) → List ℕ → List Told
+abbrev pub waiting_in : List (Option (List Record)) → List ℕ → List Notification
 waiting_in queues ps = filter has_records (map (waiting_for queues) ps)
 
 -- Each pending observer was told: nobody is pending, no record waits for those that were, what waits for another is as before, and of the registrations

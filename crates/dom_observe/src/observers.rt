@@ -6,7 +6,7 @@ ghost use Rattle.dom_model.specs.PlainLists.Lists.{among};
 ghost use Rattle.dom_model.specs.MutationAlgorithms.Discarding.{observed_nodes};
 ghost use Rattle.dom_model.specs.Worlds.World.{Observing};
 ghost use Rattle.dom_model.specs.MutationObservers.Observing.{standing_on, noted, with_transients};
-ghost use Rattle.dom_model.specs.MutationObservers.Records.{queue_of, observed, with_observer, records_taken, disconnected, released_observer, told, after_notify, pending_taken, observer_told};
+ghost use Rattle.dom_model.specs.MutationObservers.Records.{queue_of, observed, with_observer, records_taken, disconnected, released_observer, notifications, after_notify, pending_taken, observer_told};
 ghost use Rattle.dom_observe.specs.Held.{named, nodes_of_mutation, NamesNoneOf, NamesOnly, SameObservers};
 ghost use Rattle.std.specs.List.{list_any};
 ghost use Rattle.dom_observe.specs.Notifying.{waiting_in, IsNotified};
@@ -384,7 +384,7 @@ impl Observers {
     ///
     /// Records of an observer that was taken from the pending list and not notified since go on waiting. After an error nothing has changed.
     pub fn notify(&mut self) -> Result<Vec<Told>, AllocError>
-        ensures told { IfOk result (λ all. Answers told self.old all.items) }
+        ensures told { IfOk result (λ all. Answers notifications self.old all.items) }
         ensures after { OnOk result (Steps after_notify self.old self.new) }
         ensures own { IfOk result (λ all. all.items
             ≡ waiting_in self.old.queues self.old.pending) }

@@ -51,7 +51,7 @@ pub struct Told {
 }
 
 impl Model for Told {
-    ghost use Rattle.dom_model.specs.MutationObservers.Record.{Told as PlainTold};
+    ghost use Rattle.dom_model.specs.MutationObservers.Record.{Notification as PlainTold};
 
     ghost Value = { PlainTold };
 
