@@ -1,7 +1,7 @@
 //! The texts of a label: its name and its ids.
 
 ghost use Rattle.std.specs.Prelude.{◌≡◌, [], IfOk, string_bytes};
-ghost use Rattle.dom_kinds.specs.Texts.{name_in, public_in, system_in};
+ghost use Rattle.dom_kinds.specs.LabelTexts.{name_in, public_in, system_in};
 
 use arrayvec::ArrayString;
 use std::alloc::{AllocError, Global};
@@ -10,33 +10,33 @@ use std::alloc::{AllocError, Global};
 ///
 /// A name of at most 8 bytes is stored inline, so most nodes take no memory for their texts.
 #[derive(Debug, Drop)]
-pub(crate) enum Texts {
+pub(crate) enum LabelTexts {
     Short(ArrayString<8>),
     Long(Box<String>),
     Doctype(Box<(String, String, String)>),
 }
 
-impl Texts {
+impl LabelTexts {
     /// Returns a name without ids. It takes memory only if the name has more than 8 bytes.
-    pub(crate) fn named(alloc: Global, name: &str) -> Result<Texts, AllocError>
+    pub(crate) fn named(alloc: Global, name: &str) -> Result<LabelTexts, AllocError>
         ensures name { IfOk result (λ made. name_in made ≡ name.now) }
         ensures public_id { IfOk result (λ made. public_in made ≡ []) }
         ensures system_id { IfOk result (λ made. system_in made ≡ []) }
     {
         if let Ok(short) = ArrayString::from(name) {
-            return Ok(Texts::Short(short));
+            return Ok(LabelTexts::Short(short));
         }
         let name = String::from_str(alloc, name)?;
-        Ok(Texts::Long(Box::new(alloc, name)?))
+        Ok(LabelTexts::Long(Box::new(alloc, name)?))
     }
 
     pub(crate) fn name(&self) -> &str
         ensures { result.now ≡ name_in self.now }
     {
         match self {
-            Texts::Short(name) => name.as_str(),
-            Texts::Long(name) => name.as_str(),
-            Texts::Doctype(texts) => texts.0.as_str(),
+            LabelTexts::Short(name) => name.as_str(),
+            LabelTexts::Long(name) => name.as_str(),
+            LabelTexts::Doctype(texts) => texts.0.as_str(),
         }
     }
 
@@ -44,8 +44,8 @@ impl Texts {
         ensures { result.now ≡ public_in self.now }
     {
         match self {
-            Texts::Doctype(texts) => texts.1.as_str(),
-            Texts::Short(_) | Texts::Long(_) => "",
+            LabelTexts::Doctype(texts) => texts.1.as_str(),
+            LabelTexts::Short(_) | LabelTexts::Long(_) => "",
         }
     }
 
@@ -53,21 +53,21 @@ impl Texts {
         ensures { result.now ≡ system_in self.now }
     {
         match self {
-            Texts::Doctype(texts) => texts.2.as_str(),
-            Texts::Short(_) | Texts::Long(_) => "",
+            LabelTexts::Doctype(texts) => texts.2.as_str(),
+            LabelTexts::Short(_) | LabelTexts::Long(_) => "",
         }
     }
 
     /// Returns a copy in memory of its own.
-    pub(crate) fn try_clone(&self, alloc: Global) -> Result<Texts, AllocError>
+    pub(crate) fn try_clone(&self, alloc: Global) -> Result<LabelTexts, AllocError>
         ensures name { IfOk result (λ copy. name_in copy ≡ name_in self.now) }
         ensures public_id { IfOk result (λ copy. public_in copy ≡ public_in self.now) }
         ensures system_id { IfOk result (λ copy. system_in copy ≡ system_in self.now) }
     {
         match self {
-            Texts::Short(name) => Texts::named(alloc, name.as_str()),
-            Texts::Long(name) => Texts::named(alloc, name.as_str()),
-            Texts::Doctype(texts) => Ok(Texts::Doctype(copied(alloc, texts)?)),
+            LabelTexts::Short(name) => LabelTexts::named(alloc, name.as_str()),
+            LabelTexts::Long(name) => LabelTexts::named(alloc, name.as_str()),
+            LabelTexts::Doctype(texts) => Ok(LabelTexts::Doctype(copied(alloc, texts)?)),
         }
     }
 }
