@@ -2,7 +2,7 @@
 use Rattle.std.proofs.Common.{◌≡◌, ℕ, ◌<◌, ◌==◌, false, List, [], ◌∷◌, Option, Some, None, refl, sym, ◌∙◌, ⊎_elim, arith}
 use Rattle.std.proofs.lemmas.Bool.{cases_eq, eq-eqb, false≢true}
 use Rattle.dom_model.specs.Definitions.{hits, is_number, head_of, after, before}
-use Rattle.dom_links.proofs.Neighbours.{head_of-none, after-none, before_from-none}
+use Rattle.dom_links.proofs.ListNeighbourLemmas.{head_of-none, after-none, before_from-none}
 
 there : (o : Option ℕ) (k : ℕ) (xs : List ℕ) → (hits k xs ≡ 0 → is_number o k ≡ false) → o ≡ Some k → 0 < hits k xs
 there o k xs none h =

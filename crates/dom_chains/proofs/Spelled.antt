@@ -2,8 +2,8 @@
 use Rattle.std.proofs.Common.{◌≡◌, ℕ, ◌≤◌, ◌<◌, ◌==◌, true, false, cond, List, [], ◌∷◌, length, set, Option, Some, None, unwrap_or, refl, sym, ap, ◌∙◌, ⊎_elim, arith, length-set, get_or-set_same, get_or-set_other, if◌then◌else◌}
 use Rattle.std.proofs.lemmas.{Bool.cases_Bool, Bool.cases_eq, Bool.eq-eqb, Bool.ne_eqb, Bool.Decides.nat_tests}
 use Rattle.dom_model.specs.Definitions.{hits, is_number, head_of, after, before_from, before, left_out}
-use Rattle.dom_links.specs.Wiring.{link_unless}
-use Rattle.dom_links.proofs.Neighbours.{hits-left_out_other, head_of-left_out, after-left_out, before_from-left_out, meets, first_of}
+use Rattle.dom_links.specs.LinkSteps.{link_unless}
+use Rattle.dom_links.proofs.ListNeighbourLemmas.{hits-left_out_other, head_of-left_out, after-left_out, before_from-left_out, meets, first_of}
 use Rattle.dom_chains.specs.{Keyed.covers, Chained.Firsts, Chained.head_at, Chained.cover_of, Chained.Links, Chained.link_at, Chained.counted_at, Chained.IsChained, Chained.ForLink, Chained.led, Chained.heads_led, Chained.led_on, Chained.led_back, Chained.led_first, Chained.keys_without, Chained.unchained, Chained.chained_first}
 use Rattle.dom_chains.proofs.{Beside.after-there, Beside.before-there, Beside.head-there, Beside.has-head, Covers.head-within, Covers.head-covers}
 use Rattle.dom_model.proofs.Soundness.SoundEditing.{number_is}

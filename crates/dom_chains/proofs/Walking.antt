@@ -4,7 +4,7 @@ use Rattle.std.proofs.lemmas.{Bool.cases_Bool, Bool.cases_eq, Bool.eq-eqb, Bool.
 use Rattle.dom_model.specs.Definitions.{hits, among, is_number, head_of, after, left_out}
 use Rattle.dom_model.proofs.Forests.{Climbing.hits-not_among, Climbing.not_among-hits, Listed.hits-itself}
 use Rattle.dom_model.proofs.PlainLists.Heads.{hits-rest, after-first, after-rest, among-first, among-rest}
-use Rattle.dom_links.proofs.{Neighbours.after-none, Neighbours.after-left_out, Neighbours.hits-left_out_other, Counting.length-le_from_once}
+use Rattle.dom_links.proofs.{ListNeighbourLemmas.after-none, ListNeighbourLemmas.after-left_out, ListNeighbourLemmas.hits-left_out_other, ListLengthLemmas.length-le_from_once}
 use Rattle.dom_chains.specs.{Keyed.key_at, Keyed.on_key, Chained.head_at, Chained.Links, Chained.link_at, Chained.counted_at, Chained.IsChained, Chained.HasChains, Chained.Rechains, Chained.moved}
 use Rattle.dom_slots.proofs.Places.{slice_get-set_same, slice_get-set_other}
 use Rattle.dom_chains.proofs.{Items.same-items, Spelled.in-stands, Spelled.once, Spelled.stands-itself}

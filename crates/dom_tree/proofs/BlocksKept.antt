@@ -7,7 +7,7 @@ use Rattle.dom_model.proofs.PlainLists.{Numbers.same_or, Numbers.same, Numbers.a
 use Rattle.dom_model.proofs.Forests.{Changes.seen, Changes.nothing, Changes.just, Changes.cut_at, Lying.left_out-absent, Siblings.hits-get}
 use Rattle.dom_tree.specs.{Slots.Kept, Slots.with_index, Slots.with_sure, Slots.unknown, Slots.Tells, Slots.index_in, Slots.sure_in, Slots.reach_in, Slots.indexed, Slots.assured, Slots.IsCounted, Numberings.index_put, Numberings.sure_put, Numberings.reach_put, Numberings.numbered_put, Numberings.numbered_cut_from, Numberings.numbered_cut, Numberings.IsWritten, Numberings.IsNumbered, Blocks.ahead_of, Blocks.raised, Blocks.lowered, Blocks.counts_in, Blocks.counts_but, Blocks.AreFilled, Blocks.Fits, Blocks.StandsInBlocks, Blocks.AreBlocked, Blocks.block_of, Blocks.block_beside, Blocks.block_put, Blocks.unsure, Blocks.blocked_put, Blocks.block_at, Blocks.IsInBlocks, Blocks.IsRenumbered}
 use Rattle.dom_tree.proofs.{PlacesAt.get-place, PlacesAt.get-within, Beside.get-last, Stores.linked-at, Stores.unlinked-at, Stores.added-old, Stores.taken-other, Counting.children-once, Counting.altered-children, Counting.altered-parent, Counting.altered-part, Counting.indexed-index, Counting.indexed-other, Counting.indexed-sure, Counting.indexed-reach, Counting.assured-sure, Counting.assured-reach, Counting.assured-other, Counting.assured-far, Counting.assured-index, Counting.hits-entered, Counting.link-index, Counting.link-reach, Counting.link-children, Counting.cut-index, Counting.cut-reach, Counting.cut-children, Counting.some-altered, Counting.linked-under, Counting.held-linked, Nodes.indexed-nodes, Nodes.assured-nodes, Nodes.room-altered, OwnedSlots.indexed-owned, OwnedSlots.assured-owned, Written.children-same, Written.held-same, Written.not_in, InBlocks.ahead-first, InBlocks.fits-entered, InBlocks.fits-left_out, InBlocks.fits-filled, MapTable.blocks, MapTable.but-here, MapTable.but-other}
-use Rattle.dom_links.proofs.Cutting.{names-same, names-other}
+use Rattle.dom_links.proofs.UnlinkLemmas.{names-same, names-other}
 
 raised-some : (cs : List ℕ) (r : ℕ) → 0 < length (raised cs r) → 0 < length cs
 raised-some [] r h = h

@@ -7,7 +7,7 @@ use Rattle.dom_model.proofs.PlainLists.{Numbers.same_or, Numbers.same, Numbers.a
 use Rattle.dom_model.proofs.Forests.{Changes.cut_at, Changes.link_at, Lying.left_out-absent}
 use Rattle.dom_tree.specs.{Slots.Kept, Slots.with_index, Slots.with_sure, Slots.unknown, Slots.Tells, Slots.index_in, Slots.sure_in, Slots.reach_in, Slots.indexed, Slots.assured, Slots.IsCounted, Numberings.index_put, Numberings.sure_put, Numberings.reach_put, Numberings.numbered_put, Numberings.numbered_cut_from, Numberings.numbered_cut}
 use Rattle.dom_tree.proofs.{PlacesAt.last-there, Stores.altered-at, Stores.linked-at, Stores.unlinked-at, Stores.added-new, Stores.added-old, Stores.taken-at, Stores.taken-other}
-use Rattle.dom_links.proofs.Cutting.{names-le, names-same, names-other}
+use Rattle.dom_links.proofs.UnlinkLemmas.{names-le, names-same, names-other}
 
 pub hits-left_out : (x c : ℕ) (l : List ℕ) → 0 < hits x (left_out c l) → (x ≡ c → ⊥) × (0 < hits x l)
 hits-left_out x c [] h = absurd (omega arith)

@@ -10,7 +10,7 @@ use Rattle.dom_model.proofs.Forests.{Changes.seen, Changes.nothing, Changes.just
 use Rattle.dom_links.specs.Placed.{Placed, slot_of, slots_of, IsPlaced}
 use Rattle.dom_tree.specs.{Following.HasParent, Following.slots_from, Following.slot_numbers_from, Following.IsChild, Slots.Kept, Slots.nodes_alone, Slots.IsTree, Spelled.number_in_slot, Spelled.slot_in, Spelled.slot_for, Spelled.numbered, Spelled.shown, Spelled.IsKept}
 use Rattle.dom_tree.proofs.{Counting.children-once, Kept.entry-numbered, Nodes.children-nodes, Nodes.siblings-nodes, Nodes.sound-nodes, Nodes.held-nodes, Numbering.same_test, Numbering.sibling-held, Numbering.siblings_in-map, Reading.children-read, Trees.slot-of_child, Trees.parent-there}
-use Rattle.dom_links.proofs.Cutting.{names-same, names-other}
+use Rattle.dom_links.proofs.UnlinkLemmas.{names-same, names-other}
 
 -- a list from its head on is the whole of it
 from-head : (c : ℕ) (xs : List ℕ) → head_of xs ≡ Some c → from_first c xs ≡ xs

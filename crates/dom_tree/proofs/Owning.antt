@@ -5,7 +5,7 @@ use Rattle.dom_model.specs.Definitions.{names}
 use Rattle.dom_model.proofs.PlainLists.Numbers.{same_or, same, apart}
 use Rattle.dom_tree.specs.Owned.{having, IsOwned}
 use Rattle.dom_tree.proofs.Sums.{below-none, below-few, below-part, below-past, below-but}
-use Rattle.dom_links.proofs.Cutting.{names-le}
+use Rattle.dom_links.proofs.UnlinkLemmas.{names-le}
 
 pub names-is : (o : Option ℕ) (d : ℕ) → o ≡ Some d → names o d ≡ 1
 names-is o d e = rw e (elim (same_or d d) [ same _ t ↦ rw t refl | apart ne _ ↦ absurd (ne refl) ])

@@ -7,7 +7,7 @@ use Rattle.dom_model.proofs.PlainLists.Numbers.{same_or, same, apart}
 use Rattle.dom_model.proofs.Forests.{Changes.seen, Changes.nothing, Changes.just, Changes.cut_at, Changes.link_at, Lying.left_out-absent}
 use Rattle.dom_tree.specs.{declared.tallies.Tally.Tally, Tallies.tally_in, Tallies.tally_but, Tallies.bare, Tallies.one, Tallies.raised, Tallies.lowered, Tallies.has_in, Tallies.kind_tally, Tallies.tally_put, Tallies.tally_cut, Tallies.IsTally, Tallies.AreStarted, Tallies.AreTallied}
 use Rattle.dom_tree.proofs.{Stores.altered-at, Stores.linked-at, Stores.unlinked-at, Stores.added-new, Stores.added-old, Stores.taken-other, MapTable.tallies, MapTable.but-here, MapTable.but-other}
-use Rattle.dom_links.proofs.Cutting.{names-same, names-other}
+use Rattle.dom_links.proofs.UnlinkLemmas.{names-same, names-other}
 
 -- How many of a list pass a test.
 

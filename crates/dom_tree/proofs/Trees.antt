@@ -10,7 +10,7 @@ use Rattle.dom_tree.specs.{Standing.MayStand, Spelled.number_in_slot, Spelled.sl
 use Rattle.dom_tree.proofs.{Kept.Keeps, Kept.index-slot, Taking.taken-kept, Taking.taken-live, Nodes.entry-nodes, Nodes.parent-nodes, Nodes.children-nodes, Nodes.siblings-nodes, Nodes.next-nodes, Nodes.previous-nodes, Nodes.none-nodes, Nodes.held-back, Nodes.sound-nodes, Nodes.stands-nodes, Nodes.next_slot-nodes, Nodes.altered-nodes, Nodes.indexed-nodes, Nodes.assured-nodes, Nodes.linked-nodes, Nodes.unlinked-nodes, Nodes.added-nodes, Nodes.taken-nodes, Nodes.room-altered, Counting.counted-put, Counting.counted-cut, Counting.counted-added, Counting.counted-taken, Counting.counted-altered, Counting.held-linked}
 use Rattle.dom_tree.proofs.Making as making
 use Rattle.dom_tree.proofs.Reading as reading
-use Rattle.dom_links.proofs.Cutting.{names-same}
+use Rattle.dom_links.proofs.UnlinkLemmas.{names-same}
 
 -- a store and a table that spell a forest, with indices that are right
 pub record Stays {X : Type 0} (a : Arena (Kept X)) (table : List (Option ℕ)) (live : ℕ) (f : Forest X) : Type 0 where

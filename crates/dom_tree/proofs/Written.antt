@@ -7,7 +7,7 @@ use Rattle.dom_model.proofs.PlainLists.{Numbers.same_or, Numbers.same, Numbers.a
 use Rattle.dom_model.proofs.Forests.{Changes.seen, Changes.nothing, Changes.just, Chains.place-apart, Siblings.after-get, Siblings.hits-get, Siblings.place-before, Siblings.place-first}
 use Rattle.dom_tree.specs.{Slots.Kept, Slots.with_sure, Slots.unknown, Slots.Tells, Slots.nodes_alone, Slots.index_in, Slots.sure_in, Slots.reach_in, Slots.indexed, Slots.assured, Slots.IsCounted, Numberings.told, Numberings.IsWritten, Numberings.IsNumbered}
 use Rattle.dom_tree.proofs.{Nodes.parent-nodes, Nodes.children-nodes, Nodes.held-nodes, Nodes.held-back, Nodes.indexed-nodes, Nodes.assured-nodes, Nodes.room-altered, PlacesAt.get-place, PlacesAt.get-within, PlacesAt.place-get, Counting.children-once, Counting.altered-children, Counting.indexed-index, Counting.indexed-other, Counting.indexed-sure, Counting.indexed-reach, Counting.assured-sure, Counting.assured-reach, Counting.assured-other, Counting.assured-far, Counting.assured-index, OwnedSlots.indexed-owned, OwnedSlots.assured-owned}
-use Rattle.dom_links.proofs.Cutting.{names-same, names-other}
+use Rattle.dom_links.proofs.UnlinkLemmas.{names-same, names-other}
 
 module _ {X : Type 0} where
   pub children-same : (a b : Arena (Kept X)) → nodes_alone a ≡ nodes_alone b → (n : ℕ) → children_in (entry_at a n) ≡ children_in (entry_at b n)

@@ -2,8 +2,8 @@
 use Rattle.std.proofs.Common.{◌≡◌, ℕ, ◌+◌, ◌-◌, ◌≤◌, true, false, cond, eqb, List, [], length, Option, Some, None, refl, sym, ap, ◌∙◌, subst, inl, inr, ⊎_elim, ◌⊎◌, arith}
 use Rattle.std.proofs.lemmas.Bool.{cases_Bool, cases_eq, eq-eqb, ne_eqb}
 use Rattle.dom_model.specs.Definitions.{hits, is_number, head_of, last_of, after, before, left_out, Entry, names, parent_in, children_in, list_under, siblings_in, next_in, previous_in, IsLinked}
-use Rattle.dom_links.specs.Wiring.{link_unless}
-use Rattle.dom_links.proofs.Neighbours.{head_of-none, after-none, before_from-none, last_from-none, last_of-last_from, head_of-left_out, after-left_out, before_from-left_out, last_of-left_out, meets, first_of, final_of, turned}
+use Rattle.dom_links.specs.LinkSteps.{link_unless}
+use Rattle.dom_links.proofs.ListNeighbourLemmas.{head_of-none, after-none, before_from-none, last_from-none, last_of-last_from, head_of-left_out, after-left_out, before_from-left_out, last_of-left_out, meets, first_of, final_of, turned}
 use Rattle.dom_model.proofs.Forests.Lying.{left_out-absent}
 use Rattle.dom_model.proofs.Worlds.Measured.{length-left_out}
 

@@ -3,8 +3,8 @@ use Rattle.std.proofs.Common.{◌≡◌, ℕ, ◌≤◌, ◌<◌, false, cond, e
 use Rattle.std.proofs.lemmas.{Bool.cases_eq, Bool.cases_lt, Bool.eq-eqb, Bool.ne_eqb, Bool.le-ltb, List.get_or-set_same, List.get_or-set_other, List.get_or_past, List.set_past, List.length-set}
 use denote.RawPtr.{Ptr}
 use Rattle.dom_model.specs.Definitions.{is_number, Entry, Arena, held, entry_at, altered, no_slots, IsLinked}
-use Rattle.dom_links.specs.{Cells.same_ptr, Cells.look, declared.node.Node.Node, Standing.pointer_in, Standing.link_in, Standing.node_behind, Standing.arena_of, Standing.wired, Standing.Stands, Wiring.leads_to, Wiring.link_unless}
-use Rattle.dom_links.proofs.{Cells.same_ptr_refl, Cells.differs, Standing.Known, Standing.arena_read, Standing.node_of, Standing.place_held, Standing.held_entry}
+use Rattle.dom_links.specs.{Cells.same_ptr, Cells.look, declared.node.Node.Node, ArenaMemory.pointer_in, ArenaMemory.link_in, ArenaMemory.node_behind, ArenaMemory.arena_of, ArenaMemory.wired, ArenaMemory.Stands, LinkSteps.leads_to, LinkSteps.link_unless}
+use Rattle.dom_links.proofs.{CellsLemmas.same_ptr_refl, CellsLemmas.differs, ArenaMemoryLemmas.Known, ArenaMemoryLemmas.arena_read, ArenaMemoryLemmas.node_of, ArenaMemoryLemmas.place_held, ArenaMemoryLemmas.held_entry}
 
 module _ {T : Type 0} where
   pub free_read : (ps : List (Option Ptr)) (cs : List (Ptr × Node T)) (free : List ℕ) {a : Arena T} → arena_of ps cs free ≡ a → a.free ≡ reverse free

@@ -4,8 +4,8 @@ use Rattle.std.proofs.lemmas.{Bool.cases_eq, Bool.eq-eqb, Bool.true≢false, Lis
 use denote.RawPtr.{Ptr}
 use Rattle.dom_model.specs.Definitions.{hits, is_number, head_of, last_of, after, before, Entry, Arena, names, entry_at, parent_in, children_in, list_under, siblings_in, next_in, previous_in, IsLinked}
 use Rattle.dom_model.proofs.Forests.{Climbing.hits-append, Standing.after-ahead}
-use Rattle.dom_links.specs.{Cells.look, declared.node.Node.Node, Standing.pointer_in, Standing.link_in, Standing.node_behind, Standing.node_in, Standing.slot_behind, Standing.slots_from, Standing.slots_along, Standing.entry_from, Standing.arena_of, Standing.wired, Standing.Stands}
-use Rattle.dom_links.proofs.{Neighbours.after-none, Neighbours.before_from-none, Neighbours.head_of-none, Neighbours.last_from-none, Neighbours.last_of-last_from, Cutting.names-same, Cutting.names-other, Cutting.hits-le}
+use Rattle.dom_links.specs.{Cells.look, declared.node.Node.Node, ArenaMemory.pointer_in, ArenaMemory.link_in, ArenaMemory.node_behind, ArenaMemory.node_in, ArenaMemory.slot_behind, ArenaMemory.slots_from, ArenaMemory.slots_along, ArenaMemory.entry_from, ArenaMemory.arena_of, ArenaMemory.wired, ArenaMemory.Stands}
+use Rattle.dom_links.proofs.{ListNeighbourLemmas.after-none, ListNeighbourLemmas.before_from-none, ListNeighbourLemmas.head_of-none, ListNeighbourLemmas.last_from-none, ListNeighbourLemmas.last_of-last_from, UnlinkLemmas.names-same, UnlinkLemmas.names-other, UnlinkLemmas.hits-le}
 
 pub names-positive : (o : Option ℕ) (n : ℕ) → 0 < names o n → o ≡ Some n
 names-positive None n h = absurd (omega arith)

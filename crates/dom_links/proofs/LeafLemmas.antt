@@ -3,7 +3,7 @@ use Rattle.std.proofs.Common.{◌≡◌, ℕ, [], length, Option, Some, refl, ap
 use Rattle.std.proofs.lemmas.List.{nil_from_length}
 use Rattle.dom_model.specs.Definitions.{hits, Entry, names, parent_in, children_in, IsLinked, StandsUnder}
 use Rattle.dom_model.specs.Forests.Arena.StandsUnder.{itself, below}
-use Rattle.dom_links.proofs.Cutting.{names-same}
+use Rattle.dom_links.proofs.UnlinkLemmas.{names-same}
 
 childless : {T : Type 0} (at : ℕ → Option (Entry T)) (c n : ℕ) → IsLinked at → children_in (at c) ≡ [] → parent_in (at n) ≡ Some c → ⊥
 childless at c n l none up =

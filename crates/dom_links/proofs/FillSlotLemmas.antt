@@ -4,8 +4,8 @@ use Rattle.std.proofs.lemmas.{Bool.cases_eq, Bool.cases_lt, Bool.eq-eqb, Bool.ne
 use denote.RawPtr.{Ptr}
 use Rattle.dom_model.specs.Definitions.{hits, head_of, last_of, after, before, Entry, Arena, names, held, alone, entry_at, parent_in, children_in, list_under, siblings_in, next_in, previous_in, next_from, next_slot, added, added_from, taken, IsLinked}
 use Rattle.dom_model.specs.Forests.Arena.{IsSound}
-use Rattle.dom_links.specs.{Cells.same_ptr, Cells.look, Cells.without, declared.node.Node.Node, Standing.pointer_in, Standing.link_in, Standing.node_behind, Standing.node_in, Standing.wired, Standing.Stands, Wiring.alone_node, Wiring.GivesSlot}
-use Rattle.dom_links.proofs.{Cells.same_ptr_symm, Cells.differs, Cells.look_head, Cells.look_tail, Cells.look_past_without, Cells.without_length, Counting.length-le_from_once, Standing.Known, Standing.node_of, Standing.known_parent, Standing.known_next, Standing.known_previous, Standing.known_first, Standing.known_last, Closing.Closes, Closing.closes, Closing.one_slot, Relinking.same_node, Relinking.Lies}
+use Rattle.dom_links.specs.{Cells.same_ptr, Cells.look, Cells.without, declared.node.Node.Node, ArenaMemory.pointer_in, ArenaMemory.link_in, ArenaMemory.node_behind, ArenaMemory.node_in, ArenaMemory.wired, ArenaMemory.Stands, LinkSteps.alone_node, LinkSteps.GivesSlot}
+use Rattle.dom_links.proofs.{CellsLemmas.same_ptr_symm, CellsLemmas.differs, CellsLemmas.look_head, CellsLemmas.look_tail, CellsLemmas.look_past_without, CellsLemmas.without_length, ListLengthLemmas.length-le_from_once, ArenaMemoryLemmas.Known, ArenaMemoryLemmas.node_of, ArenaMemoryLemmas.known_parent, ArenaMemoryLemmas.known_next, ArenaMemoryLemmas.known_previous, ArenaMemoryLemmas.known_first, ArenaMemoryLemmas.known_last, ArenaAgainLemmas.Closes, ArenaAgainLemmas.closes, ArenaAgainLemmas.one_slot, LinkUnlinkLemmas.same_node, LinkUnlinkLemmas.Lies}
 
 pub index-set : {A : Type 0} (xs : List (Option A)) (n : ℕ) (y : Option A) (i : ℕ) → n < length xs → slice_index_or (slice_set xs n y) i None ≡ cond (eqb n i) y (slice_index_or xs i None)
 index-set xs n y i h =

@@ -3,8 +3,8 @@ use Rattle.std.proofs.Common.{◌≡◌, ℕ, ◌≤◌, ◌<◌, zero, suc, Boo
 use Rattle.std.proofs.lemmas.{Bool.cases_Bool, Bool.cases_lt, Bool.true≢false, Bool.false≢true, List.get_or_past}
 use denote.RawPtr.{Ptr}
 use Rattle.dom_model.specs.Definitions.{head_of, last_of, Entry, Arena, entry_at, parent_in, children_in, next_in, previous_in, with_value}
-use Rattle.dom_links.specs.{Cells.look, declared.node.Node.Node, Placed.Placed, Placed.index_of, Placed.slot_of, Placed.slots_of, Placed.IsPlaced, Placed.StaysPlaced, Placed.KeepsPlaces, Standing.pointer_in, Standing.link_in, Standing.node_behind, Standing.node_in, Standing.Stands, Wiring.leads_to, Lends.revalued_at}
-use Rattle.dom_links.proofs.{Cells.same_ptr_refl, Cells.same_ptr_eq, Standing.Known, Standing.known_parent, Standing.known_first, Standing.known_last, Standing.known_next, Standing.known_previous, Standing.place_held, Standing.node_held, Closing.one_slot, Closing.entry_at-altered, Reading.parent_link, Reading.first_link, Reading.last_link, Reading.next_link, Reading.previous_link, Reading.count_read, Reading.value_read, Relinking.Lies, Relinking.lies_at}
+use Rattle.dom_links.specs.{Cells.look, declared.node.Node.Node, Placed.Placed, Placed.index_of, Placed.slot_of, Placed.slots_of, Placed.IsPlaced, Placed.StaysPlaced, Placed.KeepsPlaces, ArenaMemory.pointer_in, ArenaMemory.link_in, ArenaMemory.node_behind, ArenaMemory.node_in, ArenaMemory.Stands, LinkSteps.leads_to, Borrows.revalued_at}
+use Rattle.dom_links.proofs.{CellsLemmas.same_ptr_refl, CellsLemmas.same_ptr_eq, ArenaMemoryLemmas.Known, ArenaMemoryLemmas.known_parent, ArenaMemoryLemmas.known_first, ArenaMemoryLemmas.known_last, ArenaMemoryLemmas.known_next, ArenaMemoryLemmas.known_previous, ArenaMemoryLemmas.place_held, ArenaMemoryLemmas.node_held, ArenaAgainLemmas.one_slot, ArenaAgainLemmas.entry_at-altered, NodeReadLemmas.parent_link, NodeReadLemmas.first_link, NodeReadLemmas.last_link, NodeReadLemmas.next_link, NodeReadLemmas.previous_link, NodeReadLemmas.count_read, NodeReadLemmas.value_read, LinkUnlinkLemmas.Lies, LinkUnlinkLemmas.lies_at}
 
 leads : (o : Option Ptr) (p : Ptr) → leads_to o p ≡ true → o ≡ Some p
 leads None p e = absurd (false≢true e)

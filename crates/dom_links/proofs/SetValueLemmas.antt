@@ -2,8 +2,8 @@
 use Rattle.std.proofs.Common.{◌≡◌, ℕ, Bool, true, false, cond, eqb, List, length, Option, Some, None, refl, sym, ap, ◌∙◌, reverse, option_map}
 use denote.RawPtr.{Ptr}
 use Rattle.dom_model.specs.Definitions.{hits, head_of, last_of, after, before, Entry, Arena, names, entry_at, parent_in, children_in, list_under, siblings_in, with_value, altered, IsLinked}
-use Rattle.dom_links.specs.{Cells.same_ptr, Cells.put, declared.node.Node.Node, Standing.pointer_in, Standing.link_in, Standing.wired, Wiring.leads_to}
-use Rattle.dom_links.proofs.{Cells.same_ptr_refl, Cells.put_length, Places.look-step, Closing.Closes, Closing.closes, Closing.entry_at-altered, Closing.length-altered, Closing.leads_to-link_in, Closing.restands, Relinking.Lies, Relinking.same_node, Relinking.known_one}
+use Rattle.dom_links.specs.{Cells.same_ptr, Cells.put, declared.node.Node.Node, ArenaMemory.pointer_in, ArenaMemory.link_in, ArenaMemory.wired, LinkSteps.leads_to}
+use Rattle.dom_links.proofs.{CellsLemmas.same_ptr_refl, CellsLemmas.put_length, PoolStepLemmas.look-step, ArenaAgainLemmas.Closes, ArenaAgainLemmas.closes, ArenaAgainLemmas.entry_at-altered, ArenaAgainLemmas.length-altered, ArenaAgainLemmas.leads_to-link_in, ArenaAgainLemmas.restands, LinkUnlinkLemmas.Lies, LinkUnlinkLemmas.same_node, LinkUnlinkLemmas.known_one}
 
 module _ {T : Type 0} where
   abbrev revalued : T → ℕ → ℕ → Entry T → Entry T

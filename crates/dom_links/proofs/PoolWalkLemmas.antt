@@ -45,7 +45,7 @@ use Rattle.std_alloc.proofs.RcSteps.{Good, word}
 use Rattle.dom_links.specs.{Cells.same_ptr, Cells.look, Ownership.cell_owns, Ownership.cells_own, Ownership.cells_lent}
 use Rattle.dom_links.specs.contracts.pool.Pool as P-type
 use Rattle.dom_links.specs.contracts.pool.NodePtr as N-type
-use Rattle.dom_links.proofs.Cells.{same_ptr_eq}
+use Rattle.dom_links.proofs.CellsLemmas.{same_ptr_eq}
 
 pub record El : Type 2 where
   pub row : RattleType

@@ -13,11 +13,11 @@ use Rattle.dom_links.specs.declared.links.Links.{Links}
 use Rattle.dom_links.specs.contracts.links.Links.{the_row as links_row}
 
 -- the same pool with w as the value of the node at p
-abbrev pub with_item : {N : Type 0} → Pool N → Ptr → N → Pool N
-with_item s p w = record { mark = s.mark; cells = put p w s.cells }
+abbrev pub with_cell : {N : Type 0} → Pool N → Ptr → N → Pool N
+with_cell s p w = record { mark = s.mark; cells = put p w s.cells }
 
 abbrev pub lends_item : (R : RattleType) → MutBor (Pool R.Denot) → Ptr → MutBor R.Denot → Fml
-lends_item R s p r = Lends (the_row R) R s r (with_item s.now p)
+lends_item R s p r = Lends (the_row R) R s r (with_cell s.now p)
 
 -- the same arena with another value at the slot n
 abbrev pub lends_value : (R : RattleType) → MutBor (Links R.Denot) → ℕ → MutBor R.Denot → Fml

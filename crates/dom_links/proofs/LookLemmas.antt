@@ -2,7 +2,7 @@
 use Rattle.std.proofs.Common.{◌≡◌, true, false, cond, List, [], ◌∷◌, ◌++◌, refl, ◌∙◌, subst, Some, IsSome}
 use denote.RawPtr.{Ptr}
 use Rattle.dom_links.specs.Cells.{same_ptr, look, put, without}
-use Rattle.dom_links.proofs.Cells.{same_ptr_eq}
+use Rattle.dom_links.proofs.CellsLemmas.{same_ptr_eq}
 
 pub record Found {N : Type 0} (p : Ptr) (cs : List (Ptr × N)) : Type 0 where
   pub before : List (Ptr × N)

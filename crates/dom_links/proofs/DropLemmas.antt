@@ -2,8 +2,8 @@
 use Rattle.std.proofs.Common.{◌≡◌, ℕ, ◌+◌, ◌≤◌, ◌<◌, cond, false, List, [], ◌∷◌, ◌++◌, length, Option, Some, None, refl, sym, ap, ◌∙◌, subst, ⊎_elim, arith, is_some, count_by}
 use Rattle.std.proofs.lemmas.{Bool.cases_lt, List.get_or_append_left, List.get_or_push, List.get_or_past, List.Sums.sum_by_push}
 use denote.RawPtr.{Ptr}
-use Rattle.dom_links.specs.{Cells.same_ptr, Cells.look, Cells.without, Standing.pointer_in, Standing.Left, declared.node.Node.Node}
-use Rattle.dom_links.proofs.Cells.{same_ptr_symm, differs, look_past_without, without_length}
+use Rattle.dom_links.specs.{Cells.same_ptr, Cells.look, Cells.without, ArenaMemory.pointer_in, ArenaMemory.Left, declared.node.Node.Node}
+use Rattle.dom_links.proofs.CellsLemmas.{same_ptr_symm, differs, look_past_without, without_length}
 
 within : (ps : List (Option Ptr)) (n : ℕ) (p : Ptr) → pointer_in ps n ≡ Some p → n < length ps
 within ps n p h = ⊎_elim (λ (lt : n < length ps). lt) (λ (le : length ps ≤ n). let e : ◌≡◌ {A = Option Ptr} None (Some p) = sym (get_or_past ps n None le) ∙ h in cc) (cases_lt n (length ps))

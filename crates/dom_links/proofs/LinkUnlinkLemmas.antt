@@ -1,10 +1,10 @@
 -- The memory after `link`, `unlink` and a value written.
 use Rattle.std.proofs.Common.{◌≡◌, ℕ, ◌+◌, ◌-◌, ◌≤◌, Bool, true, false, cond, eqb, List, [], ◌∷◌, length, Option, Some, None, refl, sym, ap, ◌∙◌, subst, ⊎_elim, arith, reverse, IsSome, IfSome, option_map}
 use Rattle.std.proofs.lemmas.{Bool.cases_Bool, Bool.cases_eq, Bool.eq-eqb, Bool.ne_eqb, Bool.false≢true, List.get_or_past}
-use Rattle.dom_links.proofs.{Counting.length-le_from_once, Cutting.hits-le, Cutting.next-cut, Cutting.previous-cut, Cutting.first-cut, Cutting.last-cut, Cutting.length-cut, Cutting.once, Cutting.next-join, Cutting.previous-join, Cutting.first-join, Cutting.last-join, Cutting.length-join, Standing.Known, Standing.known_child, Standing.held-parent, Standing.known_parent, Standing.known_next, Standing.known_previous, Standing.known_last, Standing.found_in, Standing.held_entry, Standing.node_of, Standing.place_held, Reading.Reads, Reading.reads, Reading.count_read, Reading.parent_link, Reading.previous_link, Reading.next_link, Reading.last_link, Changing.rewired, Changing.IsLinked-cut, Changing.entries-unlinked, Changing.cut-unlinked, Changing.unlinked_is, Changing.IsLinked-linked, Changing.entries-linked, Changing.cut-linked, Changing.next-linked, Changing.previous-linked, Changing.new_previous, Closing.Closes, Closing.closes, Closing.length-altered, Closing.leads_to-link_in, Closing.leads_to-link_unless, Closing.restands}
+use Rattle.dom_links.proofs.{ListLengthLemmas.length-le_from_once, UnlinkLemmas.hits-le, UnlinkLemmas.next-cut, UnlinkLemmas.previous-cut, UnlinkLemmas.first-cut, UnlinkLemmas.last-cut, UnlinkLemmas.length-cut, UnlinkLemmas.once, UnlinkLemmas.next-join, UnlinkLemmas.previous-join, UnlinkLemmas.first-join, UnlinkLemmas.last-join, UnlinkLemmas.length-join, ArenaMemoryLemmas.Known, ArenaMemoryLemmas.known_child, ArenaMemoryLemmas.held-parent, ArenaMemoryLemmas.known_parent, ArenaMemoryLemmas.known_next, ArenaMemoryLemmas.known_previous, ArenaMemoryLemmas.known_last, ArenaMemoryLemmas.found_in, ArenaMemoryLemmas.held_entry, ArenaMemoryLemmas.node_of, ArenaMemoryLemmas.place_held, NodeReadLemmas.Reads, NodeReadLemmas.reads, NodeReadLemmas.count_read, NodeReadLemmas.parent_link, NodeReadLemmas.previous_link, NodeReadLemmas.next_link, NodeReadLemmas.last_link, ChangedMemoryLemmas.rewired, ChangedMemoryLemmas.IsLinked-cut, ChangedMemoryLemmas.entries-unlinked, ChangedMemoryLemmas.cut-unlinked, ChangedMemoryLemmas.unlinked_is, ChangedMemoryLemmas.IsLinked-linked, ChangedMemoryLemmas.entries-linked, ChangedMemoryLemmas.cut-linked, ChangedMemoryLemmas.next-linked, ChangedMemoryLemmas.previous-linked, ChangedMemoryLemmas.new_previous, ArenaAgainLemmas.Closes, ArenaAgainLemmas.closes, ArenaAgainLemmas.length-altered, ArenaAgainLemmas.leads_to-link_in, ArenaAgainLemmas.leads_to-link_unless, ArenaAgainLemmas.restands}
 use denote.RawPtr.{Ptr}
 use Rattle.dom_model.specs.Definitions.{hits, is_number, head_of, last_of, entered, left_out, Entry, Arena, names, entry_at, parent_in, children_in, next_in, previous_in, with_parent, with_children, altered, linked, unlinked, unlinked_from, IsLinked}
-use Rattle.dom_links.specs.{Cells.same_ptr, Cells.look, declared.node.Node.Node, Standing.pointer_in, Standing.link_in, Standing.node_behind, Standing.node_in, Standing.wired, Standing.Stands, Wiring.link_or, Wiring.leads_to, Wiring.link_unless, Wiring.link_ahead, Wiring.with_next, Wiring.with_previous, Wiring.recounted, Wiring.with_links}
+use Rattle.dom_links.specs.{Cells.same_ptr, Cells.look, declared.node.Node.Node, ArenaMemory.pointer_in, ArenaMemory.link_in, ArenaMemory.node_behind, ArenaMemory.node_in, ArenaMemory.wired, ArenaMemory.Stands, LinkSteps.link_or, LinkSteps.leads_to, LinkSteps.link_unless, LinkSteps.link_ahead, LinkSteps.with_next, LinkSteps.with_previous, LinkSteps.recounted, LinkSteps.with_links}
 
 link_in-cond : (ps : List (Option Ptr)) (b : Bool) (x y : Option ℕ) → link_in ps (cond b x y) ≡ cond b (link_in ps x) (link_in ps y)
 link_in-cond ps true x y = refl

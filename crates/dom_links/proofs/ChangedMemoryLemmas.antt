@@ -2,7 +2,7 @@
 use Rattle.std.proofs.Common.{◌≡◌, ℕ, ◌<◌, Bool, true, false, cond, eqb, List, Option, Some, None, refl, sym, ap, ◌∙◌, subst, ⊎_elim, arith, IsSome, option_map}
 use Rattle.std.proofs.lemmas.Bool.{cases_eq, eqb-true, eqb-false, eq-eqb, ne_eqb, false≢true}
 use Rattle.dom_model.specs.Definitions.{hits, last_of, after, before, entered, left_out, Entry, Arena, names, entry_at, parent_in, children_in, list_under, next_in, previous_in, with_parent, with_children, altered, linked, unlinked, unlinked_from, IsLinked}
-use Rattle.dom_links.proofs.{Neighbours.hits-left_out_other, Neighbours.left_out-entered, Neighbours.hits-entered, Neighbours.after-entered, Neighbours.after-entered_last, Neighbours.before_from-entered, Neighbours.before_from-entered_last, Neighbours.last_of-last_from, Cutting.IsCut, Cutting.names-same, Cutting.names-other, Cutting.next_is, Cutting.previous_is, Closing.entry_at-altered}
+use Rattle.dom_links.proofs.{ListNeighbourLemmas.hits-left_out_other, ListNeighbourLemmas.left_out-entered, ListNeighbourLemmas.hits-entered, ListNeighbourLemmas.after-entered, ListNeighbourLemmas.after-entered_last, ListNeighbourLemmas.before_from-entered, ListNeighbourLemmas.before_from-entered_last, ListNeighbourLemmas.last_of-last_from, UnlinkLemmas.IsCut, UnlinkLemmas.names-same, UnlinkLemmas.names-other, UnlinkLemmas.next_is, UnlinkLemmas.previous_is, ArenaAgainLemmas.entry_at-altered}
 use Rattle.dom_model.proofs.MutationAlgorithms.Emptied.{none-left_out}
 use Rattle.dom_model.proofs.Forests.Lying.{left_out-absent}
 

@@ -2,7 +2,7 @@
 use Rattle.std.proofs.Common.{◌≡◌, ℕ, ◌+◌, ◌≤◌, ◌<◌, true, false, cond, eqb, List, [], ◌∷◌, Option, Some, None, refl, sym, ap, ◌∙◌, ⊎_elim, arith}
 use Rattle.std.proofs.lemmas.Bool.{cases_Bool, eqb-true, eqb-false, eq-eqb, ne_eqb}
 use Rattle.dom_model.specs.Definitions.{hits, is_number, head_of, last_of, after, before_from, before, entered, left_out}
-use Rattle.dom_links.specs.Wiring.{link_unless}
+use Rattle.dom_links.specs.LinkSteps.{link_unless}
 use Rattle.dom_model.proofs.Forests.{Lying.left_out-absent}
 use Rattle.dom_model.proofs.Soundness.SoundEditing.{number_is}
 

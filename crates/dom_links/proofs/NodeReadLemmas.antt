@@ -2,8 +2,8 @@
 use Rattle.std.proofs.Common.{◌≡◌, ℕ, List, length, Option, Some, sym, ap, ◌∙◌, subst, IsSome, IfSome}
 use denote.RawPtr.{Ptr}
 use Rattle.dom_model.specs.Definitions.{head_of, last_of, Entry, Arena, entry_at, parent_in, children_in, next_in, previous_in}
-use Rattle.dom_links.specs.{Cells.look, declared.node.Node.Node, Standing.node_in, Standing.link_in, Standing.wired, Standing.Stands}
-use Rattle.dom_links.proofs.Standing.{held_entry, found_in, node_of, known_next, known_previous}
+use Rattle.dom_links.specs.{Cells.look, declared.node.Node.Node, ArenaMemory.node_in, ArenaMemory.link_in, ArenaMemory.wired, ArenaMemory.Stands}
+use Rattle.dom_links.proofs.ArenaMemoryLemmas.{held_entry, found_in, node_of, known_next, known_previous}
 
 module _ {T : Type 0} where
   -- n is the node of the slot k, in memory that stands for a

@@ -2,7 +2,7 @@
 use Rattle.std.proofs.Common.{◌≡◌, ℕ, zero, suc, ◌≤◌, ◌<◌, List, [], ◌∷◌, length, refl, ⊎_elim, arith}
 use Rattle.std.proofs.lemmas.Bool.{cases_eq, eq-eqb}
 use Rattle.dom_model.specs.Definitions.{hits, left_out}
-use Rattle.dom_links.proofs.Neighbours.{hits-left_out_other}
+use Rattle.dom_links.proofs.ListNeighbourLemmas.{hits-left_out_other}
 use Rattle.dom_model.proofs.MutationAlgorithms.Emptied.{none-left_out}
 use Rattle.dom_model.proofs.Worlds.Measured.{length-left_out}
 

@@ -3,7 +3,7 @@ use Rattle.std.proofs.Common.{◌≡◌, List, Option, Some, None, refl, sym, ap
 use Rattle.std.proofs.lemmas.Bool.{cases_Bool}
 use denote.RawPtr.{Ptr}
 use Rattle.dom_links.specs.Cells.{same_ptr, look, put}
-use Rattle.dom_links.proofs.Cells.{same_ptr_eq, same_ptr_symm, look_put, look_past_put}
+use Rattle.dom_links.proofs.CellsLemmas.{same_ptr_eq, same_ptr_symm, look_put, look_past_put}
 
 pub cases_ptr : (p q : Ptr) → (p ≡ q) ⊎ (same_ptr p q ≡ false)
 cases_ptr p q = ⊎_elim (λ (e : same_ptr p q ≡ true). inl (same_ptr_eq p q e)) (λ (e : same_ptr p q ≡ false). inr e) (cases_Bool (same_ptr p q))
