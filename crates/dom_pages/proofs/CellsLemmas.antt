@@ -2,7 +2,7 @@
 use Rattle.std.proofs.Common.{◌≡◌, ℕ, ◌+◌, ◌/◌, ◌%◌, ◌<◌, List, [], ◌∷◌, ◌++◌, length, Option, None, slice_index_or, slice_set, ap, sym, ◌∙◌, arith, ⊎_elim}
 use Rattle.std.proofs.lemmas.{Bool.cases_eq, List.get_or-set_same, List.get_or-set_other, List.length-set, List.FromFn.length-map-range_with_len, List.FromFn.get_or-map-range_with_len, List.FromFn.map-range_with_len_more, List.FromFn.fill_by_all}
 use Rattle.dom_pages.specs.Paged.{page_at, cell_at, cells_of, AllVacant}
-use Rattle.dom_pages.proofs.Written.{written, cell_at-other, cell_at-inside, cell_at-outside}
+use Rattle.dom_pages.proofs.PageWriteLemmas.{written, cell_at-other, cell_at-inside, cell_at-outside}
 
 module _ {T : Type 0} where
   pub length-cells_of : (pages : List (List (Option T))) (len : ℕ) → length (cells_of pages len) ≡ len

@@ -2,7 +2,7 @@
 use Rattle.std.proofs.Common.{◌≡◌, ℕ, ◌+◌, ◌<◌, List, [], ◌∷◌, ◌++◌, length, map, Option, Some, None, slice_index_or, slice_set, sym, ap, ◌∙◌, arith}
 use Rattle.std.proofs.lemmas.{List.length-map, List.map-append, List.map-set, List.get_or-map, List.Sums.sum_by-append}
 use Rattle.dom_pages.specs.Paged.{taken, taken_in}
-use Rattle.dom_pages.proofs.Taken.{taken_in-set}
+use Rattle.dom_pages.proofs.PageCountLemmas.{taken_in-set}
 
 module _ {A T : Type 0} (held : A → Option T) (cells : List A) where
   -- a cell that was read

@@ -2,7 +2,7 @@
 use Rattle.std.proofs.Common.{◌≡◌, ℕ, false, true, ◌+◌, ◌*◌, ◌/◌, ◌%◌, ◌<◌, ◌≤◌, List, [], ◌∷◌, ◌++◌, length, Option, Some, None, IsSome, slice_index_or, slice_set, refl, ap, sym, ◌∙◌, subst, arith, ⊎_elim}
 use Rattle.std.proofs.lemmas.{Bool.cases_eq, Bool.cases_lt, List.get_or_past, List.get_or_append_left, List.get_or_push, List.get_or-set_same, List.get_or-set_other, List.length-set, List.length-append}
 use Rattle.dom_pages.specs.Paged.{page_at, cell_at, cells_of, AllVacant, IsPaged, IsTakenBack}
-use Rattle.dom_pages.proofs.{Cells.length-cells_of, Cells.get_or-cells_of, Written.written, Written.cell_at-other, Written.cell_at-outside, Written.cell_at-added}
+use Rattle.dom_pages.proofs.{CellsLemmas.length-cells_of, CellsLemmas.get_or-cells_of, PageWriteLemmas.written, PageWriteLemmas.cell_at-other, PageWriteLemmas.cell_at-outside, PageWriteLemmas.cell_at-added}
 
 module _ {T : Type 0} where
   -- what a list has at a place stands before its end
