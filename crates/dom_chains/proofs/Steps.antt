@@ -3,7 +3,7 @@ use Rattle.std.proofs.Common.{◌≡◌, ℕ, zero, suc, ◌+◌, ◌-◌, ◌<�
 use Rattle.std.proofs.lemmas.{Bool.cases_eq, Bool.eq-eqb, Bool.ne_eqb, List.length-map, List.map-set, List.get_or-map, List.get_or_append_left, List.get_or-take, List.length_push, List.map_push, List.take-map, List.length-take-le, Option.slice_get-map, Option.slice_get_read, Option.slice_get_past, Option.get_or_from_slice_get}
 use Rattle.dom_model.specs.Definitions.{hits}
 use Rattle.dom_chains.specs.{declared.table.Seat.Seat, declared.table.Table.Table, Keyed.Keyed, Keyed.key_at, Chained.Firsts, Chained.head_at, Chained.Links, Chained.link_at, Chained.counted_at, Chained.IsChained, Chained.HasChains, Chained.led, Chained.led_back, Chained.led_first, Chained.keys_without, Chained.item_in, Chained.items_of, Chained.keys_in, Chained.links_of, Chained.AreChained}
-use Rattle.dom_slots.proofs.Places.{slice_get-set_same, slice_get-set_other}
+use Rattle.dom_slots.proofs.ListPlaceLemmas.{slice_get-set_same, slice_get-set_other}
 use Rattle.dom_chains.proofs.Items.{slice_get-pushed, slice_get-cut}
 
 -- a seat that was read

@@ -7,7 +7,7 @@ ghost use Rattle.dom_observe.specs.Lending.{lends_observer};
 
 use crate::observer_id::ObserverId;
 use crate::queue::Queue;
-use dom_slots::Slotted;
+use dom_slots::NumberedItems;
 use std::alloc::{AllocError, Global};
 use std::marker::Model;
 
@@ -38,7 +38,7 @@ impl Observer {
 // The observers by their numbers. One that is released takes no memory any more.
 #[derive(Drop)]
 pub struct Roster {
-    kept: Slotted<Observer>,
+    kept: NumberedItems<Observer>,
 }
 
 impl Model for Roster {
@@ -57,7 +57,7 @@ impl Roster {
         ensures { result ≡ [] }
     {
         Roster {
-            kept: Slotted::new(alloc),
+            kept: NumberedItems::new(alloc),
         }
     }
 

@@ -6,7 +6,7 @@ use Rattle.dom_model.specs.Definitions.{among, hits, Range, nodes_of_range, node
 use Rattle.dom_model.proofs.Forests.Climbing.{hits-append, hits-first, among-hits, not_among-hits}
 use Rattle.dom_model.proofs.RangesAndContents.RangesElsewhere.{among-any}
 use Rattle.dom_slots.specs.Slotted.{by_slot, IsSlotted}
-use Rattle.dom_slots.proofs.Live.{live-by_slot, items_few}
+use Rattle.dom_slots.proofs.LiveEntryLemmas.{live-by_slot, items_few}
 use Rattle.dom_ranges.specs.StaticEnds.{ends_in, count_in, with_end, AreKept}
 
 -- 1 where the node is that one

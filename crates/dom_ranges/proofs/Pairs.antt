@@ -3,7 +3,7 @@ use Rattle.std.proofs.Common.{◌≡◌, ℕ, zero, suc, ◌+◌, ◌*◌, ◌<�
 use Rattle.std.proofs.lemmas.{Bool.cases_eq, Option.none-some, Option.same_Some}
 use Rattle.dom_model.specs.Definitions.{Point, Range, moved_range, nodes_of_range}
 use Rattle.dom_chains.specs.Keyed.{keys_of}
-use Rattle.dom_slots.proofs.Places.{length-swap_remove, slice_get-swap_remove_same, slice_get-swap_remove_other}
+use Rattle.dom_slots.proofs.ListPlaceLemmas.{length-swap_remove, slice_get-swap_remove_same, slice_get-swap_remove_other}
 use Rattle.dom_ranges.specs.Ends.{point_of, end_at, range_of, paired}
 
 -- what holds of no end, and of two more wherever it holds of the rest, holds of two ends for each of some ranges

@@ -7,7 +7,7 @@ use Rattle.dom_model.proofs.RangesAndContents.RangesElsewhere.{among-any}
 use Rattle.dom_chains.specs.Keyed.{Keyed, covers, keys_of}
 use Rattle.dom_chains.proofs.Items.{keys-one}
 use Rattle.dom_slots.specs.Slotted.{slot_at, slots_left, by_slot, Fit, IsSlotted}
-use Rattle.dom_slots.proofs.{Entries.item_in_slot, Entries.by_slot-same, Entries.by_slot-map, Entries.by_slot-pushed, Entries.by_slot-set, Entries.by_slot-released, Fitting.slot_within, Fitting.Fit-released, Live.count_by-by_slot, Places.length-swap_remove}
+use Rattle.dom_slots.proofs.{SlotEntryLemmas.item_in_slot, SlotEntryLemmas.by_slot-same, SlotEntryLemmas.by_slot-map, SlotEntryLemmas.by_slot-pushed, SlotEntryLemmas.by_slot-set, SlotEntryLemmas.by_slot-released, FitLemmas.slot_within, FitLemmas.Fit-released, LiveEntryLemmas.count_by-by_slot, ListPlaceLemmas.length-swap_remove}
 use Rattle.dom_ranges.specs.{Ends.point_of, Ends.end_at, Ends.range_of, Ends.paired, Ends.table_of, Shifting.FitsMovedEnd, Shifting.CanMove, Tables.RangeTable, Tables.range_in, Tables.live_nodes, Tables.with_range, Tables.without_range, Tables.FitsMoved, Tables.OffsetsFit}
 use Rattle.dom_ranges.proofs.{EndsCounted.any-by_slot, Pairs.paired-length, Pairs.nodes-paired, Pairs.paired-pushed, Pairs.each-end, Pairs.paired-map, Pairs.paired-read, Pairs.paired-set, Pairs.ends_left, Pairs.one-long, Pairs.left-long, Pairs.paired-left}
 

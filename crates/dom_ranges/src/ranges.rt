@@ -10,7 +10,7 @@ ghost use Rattle.dom_ranges.specs.Tables.{covers, covered_to, uncovered, IsCover
 use crate::chains::{self, Ends};
 use crate::numbers::RangeId;
 use dom_point::Point;
-use dom_slots::Slots;
+use dom_slots::Numbers;
 use dom_tree::{Body, NodeId, Tree};
 use std::alloc::{AllocError, Global};
 use std::marker::Model;
@@ -22,7 +22,7 @@ use std::marker::Model;
 #[derive(Drop)]
 pub struct Ranges {
     pub(crate) chains: Ends,
-    pub(crate) slots: Slots,
+    pub(crate) slots: Numbers,
 }
 
 impl Model for Ranges {
@@ -44,7 +44,7 @@ impl Ranges {
     {
         Ranges {
             chains: Ends::new(alloc),
-            slots: Slots::new(alloc),
+            slots: Numbers::new(alloc),
         }
     }
 

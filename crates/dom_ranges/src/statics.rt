@@ -16,7 +16,7 @@ use crate::counts::EndCounts;
 use dom_ids::Id;
 use dom_kinds::{DomError, Kind};
 use dom_point::{Point, found_before, same_root};
-use dom_slots::Slotted;
+use dom_slots::NumberedItems;
 use dom_tree::{Body, NodeId, Tree};
 use std::alloc::{AllocError, Global};
 use std::marker::Model;
@@ -48,7 +48,7 @@ impl Model for StaticRange {
 /// The static ranges of a session, and the number of their ends by node.
 #[derive(Drop)]
 pub struct Statics {
-    ranges: Slotted<StaticRange>,
+    ranges: NumberedItems<StaticRange>,
     counts: EndCounts,
 }
 
@@ -71,7 +71,7 @@ impl Statics {
         ensures { result ≡ [] }
     {
         Statics {
-            ranges: Slotted::new(alloc),
+            ranges: NumberedItems::new(alloc),
             counts: EndCounts::new(alloc),
         }
     }

@@ -4,7 +4,7 @@ use Rattle.std.specs.List.{list_any, flat_map}
 use Rattle.std.proofs.lemmas.List.{Folds.list_any-append, Sorted.list_any-IsPermutation}
 use Rattle.dom_model.specs.Definitions.{nodes_unless_released}
 use Rattle.dom_slots.specs.Slotted.{by_slot, IsSlotted}
-use Rattle.dom_slots.proofs.Live.{live-by_slot}
+use Rattle.dom_slots.proofs.LiveEntryLemmas.{live-by_slot}
 
 -- what some of the items name is what some of the entries name
 module _ {A : Type 0} (p : ℕ → Bool) (nodes : A → List ℕ) where

@@ -3,7 +3,7 @@ use Rattle.std.proofs.Common.{◌≡◌, ℕ, zero, suc, ◌+◌, ◌-◌, ◌<�
 use Rattle.std.specs.{List.list_any, Option.IsSome}
 use Rattle.std.proofs.lemmas.{Bool.cases_Bool, Bool.eq-eqb, Bool.eqb-true, Bool.false≢true, List.map-set, List.map-append, List.length-map, Option.slice_get-get_or, Option.slice_get-map, Option.unwrap_or-slice_get}
 use Rattle.dom_model.specs.Definitions.{among, is_number}
-use Rattle.dom_slots.proofs.Places.{length-swap_remove}
+use Rattle.dom_slots.proofs.ListPlaceLemmas.{length-swap_remove}
 use Rattle.dom_chains.specs.Keyed.{Keyed, keys_of, passes_at}
 use Rattle.dom_traverse.specs.Whereabouts.{node_in, place_of, at_place, nodes_of, spread_over, AreSpread}
 use Rattle.dom_traverse.proofs.{Leaving.some-within, Swapped.map-swap_remove}

@@ -13,7 +13,7 @@ use crate::inside::has_few_inside;
 use crate::iterator::NodeIterator;
 use crate::located::catch_up;
 use crate::whereabouts::Whereabouts;
-use dom_slots::Slotted;
+use dom_slots::NumberedItems;
 use dom_tree::{NodeId, Tree};
 
 // The reference of an iterator; none past the last.
@@ -25,7 +25,7 @@ fn reference(iterators: &[NodeIterator], index: usize) -> Option<NodeId> {
 // The pre-removing steps of every iterator, before a node is taken from its parent. It walks the nodes inside, or climbs from each
 // reference where that takes fewer steps.
 pub(crate) fn removing<X>(
-    iterators: &mut Slotted<NodeIterator>,
+    iterators: &mut NumberedItems<NodeIterator>,
     references: &mut Whereabouts,
     tree: &Tree<X>,
     node: NodeId,
@@ -48,7 +48,7 @@ pub(crate) fn removing<X>(
 
 // The same, by the iterators at each node inside.
 fn removing_inside<X>(
-    iterators: &mut Slotted<NodeIterator>,
+    iterators: &mut NumberedItems<NodeIterator>,
     references: &mut Whereabouts,
     tree: &Tree<X>,
     node: NodeId,
@@ -77,7 +77,7 @@ fn removing_inside<X>(
 // walk meets each once; one that only shares the place stays, and is asked for its reference alone. Where those of a root go is found once for
 // all that follow one another.
 fn give_way<X>(
-    iterators: &mut Slotted<NodeIterator>,
+    iterators: &mut NumberedItems<NodeIterator>,
     references: &mut Whereabouts,
     tree: &Tree<X>,
     node: NodeId,
@@ -106,7 +106,7 @@ fn give_way<X>(
 
 // The pre-removing steps of every iterator, one after another.
 fn removing_each<X>(
-    iterators: &mut Slotted<NodeIterator>,
+    iterators: &mut NumberedItems<NodeIterator>,
     references: &mut Whereabouts,
     tree: &Tree<X>,
     node: NodeId,
@@ -126,7 +126,7 @@ fn removing_each<X>(
 
 // The pre-removing steps of one iterator.
 fn step_off<X>(
-    iterators: &mut Slotted<NodeIterator>,
+    iterators: &mut NumberedItems<NodeIterator>,
     references: &mut Whereabouts,
     tree: &Tree<X>,
     node: NodeId,

@@ -13,7 +13,7 @@ ghost use Rattle.dom_traverse.specs.Whereabouts.{all_standing, StandOrWait};
 use crate::naming::{name, names_inside, unname};
 use crate::standing::{Standing, stands_in};
 use crate::whereabouts::Whereabouts;
-use dom_slots::Slotted;
+use dom_slots::NumberedItems;
 use dom_tree::{NodeId, Tree};
 use indexmap::IndexMap;
 use std::alloc::{AllocError, Global};
@@ -22,7 +22,7 @@ use std::marker::Model;
 // Items with numbers, each with a root and a position. An item that moves is only marked, until a caller asks which are inside a subtree.
 #[derive(Drop)]
 pub(crate) struct Located<T: Standing> {
-    pub(crate) items: Slotted<T>,
+    pub(crate) items: NumberedItems<T>,
     // positions by slot; none while an item is marked as moved
     pub(crate) whereabouts: Whereabouts,
     // how many items have a node as their root, by its number
@@ -45,7 +45,7 @@ impl<T: Standing> Model for Located<T> {
 }
 
 // The slot of an item, for reading and writing.
-pub(crate) fn slot_of<T>(items: &Slotted<T>, number: u32) -> usize
+pub(crate) fn slot_of<T>(items: &NumberedItems<T>, number: u32) -> usize
     requires { IsSome (item_in (by_slot items.now.slots items.now.items) number) }
     ensures within { result < length items.now.items }
     ensures read { item_in (by_slot items.now.slots items.now.items) number
@@ -74,7 +74,7 @@ impl<T: Standing> Located<T> {
         ensures { result ≡ [] }
     {
         Located {
-            items: Slotted::new(alloc),
+            items: NumberedItems::new(alloc),
             whereabouts: Whereabouts::new(alloc),
             roots: IndexMap::new(alloc),
         }

@@ -4,7 +4,7 @@
 ghost use Rattle.std.specs.Prelude.{◌≤◌};
 
 use super::playing::expect;
-use dom_slots::Slots;
+use dom_slots::Numbers;
 use growth_marks::{Act, begins, ends};
 use std::alloc::{AllocError, Global};
 use std::test::Fail;
@@ -40,7 +40,7 @@ type Row = (u32, u32, Step);
 // Numbers, and an item for each by its slot.
 #[derive(Drop)]
 struct Items {
-    slots: Slots,
+    slots: Numbers,
     items: Vec<u64>,
 }
 
@@ -59,7 +59,7 @@ fn reserve(items: &mut Items, additional: usize) -> Result<bool, AllocError> {
 }
 
 // Makes the next number within reserved room, and returns whether it and its slot are the expected ones.
-fn make_reserved(slots: &mut Slots, due: u32, slot: usize) -> bool
+fn make_reserved(slots: &mut Numbers, due: u32, slot: usize) -> bool
     requires { 1 ≤ slots.old.room }
 {
     let number = slots.push_reserved();
@@ -67,7 +67,7 @@ fn make_reserved(slots: &mut Slots, due: u32, slot: usize) -> bool
 }
 
 // Reserves room and makes the next number. If memory is refused, nothing has changed, and it reserves the room again.
-fn make(slots: &mut Slots, due: u32) -> Result<bool, AllocError> {
+fn make(slots: &mut Numbers, due: u32) -> Result<bool, AllocError> {
     let (made, live) = (slots.made(), slots.count());
     if made >= 1_000_000 {
         return Ok(false);
@@ -151,7 +151,7 @@ impl Act for Step {
 
     fn scene(alloc: Global) -> Items {
         Items {
-            slots: Slots::new(alloc),
+            slots: Numbers::new(alloc),
             items: Vec::new(alloc),
         }
     }

@@ -1,7 +1,7 @@
 use Rattle.std.proofs.Common.{ℕ, is_some, option_map, ap, sym, ◌∙◌, arith}
 use Rattle.dom_chains.proofs.Items.{keys-one}
 use Rattle.dom_slots.specs.Slotted.{slot_at}
-use Rattle.dom_slots.proofs.Entries.{has_slot}
+use Rattle.dom_slots.proofs.SlotEntryLemmas.{has_slot}
 use Rattle.dom_ranges.specs.{Ends.paired, Tables.RangeTable, Tables.covers, Tables.range_in}
 use Rattle.dom_ranges.proofs.Tables.{end-within, range-read}
 use Rattle.dom_ranges.proofs.ranges.Ranges.ends.Goals as goal

@@ -1,6 +1,6 @@
 use Rattle.std.proofs.Common.{is_some, ap, sym, ◌∙◌}
 use Rattle.dom_slots.specs.Slotted.{slot_at}
-use Rattle.dom_slots.proofs.Entries.{is_some-by_slot}
+use Rattle.dom_slots.proofs.SlotEntryLemmas.{is_some-by_slot}
 use Rattle.dom_ranges.specs.Tables.{RangeTable, range_in}
 use Rattle.dom_ranges.proofs.Tables.{are-slotted}
 use Rattle.dom_ranges.proofs.ranges.Ranges.holds.Goals as goal

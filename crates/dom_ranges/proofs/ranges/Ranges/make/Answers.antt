@@ -1,6 +1,6 @@
 use Rattle.std.proofs.Common.{[], ◌∷◌, ◌++◌, length, is_some, ap, ◌∙◌, arith}
 use Rattle.std.proofs.lemmas.{List.Sums.count_by-le-length}
-use Rattle.dom_slots.proofs.Entries.{length-by_slot}
+use Rattle.dom_slots.proofs.SlotEntryLemmas.{length-by_slot}
 use Rattle.dom_ranges.specs.{Ends.end_at, Ends.paired, Tables.RangeTable}
 use Rattle.dom_ranges.proofs.Tables.{table-pushed}
 use Rattle.dom_ranges.proofs.ranges.Ranges.make.Goals as goal

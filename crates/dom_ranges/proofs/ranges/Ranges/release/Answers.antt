@@ -1,6 +1,6 @@
 use Rattle.std.proofs.Common.{is_some, ap, ◌∙◌, arith}
 use Rattle.dom_slots.specs.Slotted.{slot_at}
-use Rattle.dom_slots.proofs.Entries.{has_slot}
+use Rattle.dom_slots.proofs.SlotEntryLemmas.{has_slot}
 use Rattle.dom_ranges.specs.{Ends.paired, Tables.RangeTable, Tables.range_in, Tables.without_range}
 use Rattle.dom_ranges.proofs.Tables.{end-within, start-within, long-left, table-left}
 use Rattle.dom_ranges.proofs.ranges.Ranges.release.Goals as goal

@@ -1,7 +1,7 @@
 use Rattle.std.proofs.Common.{◌*◌, length, is_some, ap, sym, ◌∙◌, arith, length-set}
 use Rattle.dom_chains.specs.Keyed.{Keyed}
 use Rattle.dom_slots.specs.Slotted.{slot_at}
-use Rattle.dom_slots.proofs.Entries.{has_slot}
+use Rattle.dom_slots.proofs.SlotEntryLemmas.{has_slot}
 use Rattle.dom_ranges.specs.{Ends.end_at, Ends.paired, Tables.RangeTable, Tables.range_in}
 use Rattle.dom_ranges.proofs.Tables.{end-within, long-set, table-set}
 use Rattle.dom_ranges.proofs.ranges.Ranges.write.Goals as goal

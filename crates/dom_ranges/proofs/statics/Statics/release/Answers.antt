@@ -2,7 +2,7 @@ use Rattle.std.proofs.Common.{ℕ, is_some, ap, ◌∙◌}
 use Rattle.dom_model.specs.Definitions.{Point, Range}
 use Rattle.dom_pages.specs.Numbered.{item_at}
 use Rattle.dom_slots.specs.Slotted.{slot_at}
-use Rattle.dom_slots.proofs.Entries.{has_slot}
+use Rattle.dom_slots.proofs.SlotEntryLemmas.{has_slot}
 use Rattle.dom_ranges.proofs.EndsCounted.{start-counted, end-counted, kept-released}
 use Rattle.dom_ranges.proofs.statics.Statics.release.Goals as goal
 
