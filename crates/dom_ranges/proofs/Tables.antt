@@ -5,7 +5,7 @@ use Rattle.std.proofs.lemmas.{Bool.cases_lt, List.get_or_past, List.length-map, 
 use Rattle.dom_model.specs.Definitions.{among, Point, Range, moved_range, map_ranges, nodes_of_range, nodes_unless_released}
 use Rattle.dom_model.proofs.RangesAndContents.RangesElsewhere.{among-any}
 use Rattle.dom_chains.specs.Keyed.{Keyed, covers, keys_of}
-use Rattle.dom_chains.proofs.Items.{keys-one}
+use Rattle.dom_chains.proofs.AllItemsLemmas.{keys-one}
 use Rattle.dom_slots.specs.Slotted.{slot_at, slots_left, by_slot, Fit, IsSlotted}
 use Rattle.dom_slots.proofs.{SlotEntryLemmas.item_in_slot, SlotEntryLemmas.by_slot-same, SlotEntryLemmas.by_slot-map, SlotEntryLemmas.by_slot-pushed, SlotEntryLemmas.by_slot-set, SlotEntryLemmas.by_slot-released, FitLemmas.slot_within, FitLemmas.Fit-released, LiveEntryLemmas.count_by-by_slot, ListPlaceLemmas.length-swap_remove}
 use Rattle.dom_ranges.specs.{Ends.point_of, Ends.end_at, Ends.range_of, Ends.paired, Ends.table_of, Shifting.FitsMovedEnd, Shifting.CanMove, Tables.RangeTable, Tables.range_in, Tables.live_nodes, Tables.with_range, Tables.without_range, Tables.FitsMoved, Tables.OffsetsFit}

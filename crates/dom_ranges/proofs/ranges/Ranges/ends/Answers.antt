@@ -1,5 +1,5 @@
 use Rattle.std.proofs.Common.{ℕ, is_some, option_map, ap, sym, ◌∙◌, arith}
-use Rattle.dom_chains.proofs.Items.{keys-one}
+use Rattle.dom_chains.proofs.AllItemsLemmas.{keys-one}
 use Rattle.dom_slots.specs.Slotted.{slot_at}
 use Rattle.dom_slots.proofs.SlotEntryLemmas.{has_slot}
 use Rattle.dom_ranges.specs.{Ends.paired, Tables.RangeTable, Tables.covers, Tables.range_in}

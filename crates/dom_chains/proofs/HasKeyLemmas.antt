@@ -3,7 +3,7 @@ use Rattle.std.proofs.Common.{◌≡◌, ℕ, true, false, List, Option, Some, N
 use Rattle.std.proofs.lemmas.Bool.{false≢true}
 use Rattle.dom_model.specs.Definitions.{among}
 use Rattle.dom_chains.specs.{Keyed.covers, Keyed.key_at, Keyed.keys_of, Chained.head_at, Chained.cover_of, Chained.Links, Chained.HasChains}
-use Rattle.dom_chains.proofs.{Beside.head-there, Beside.has-head, Covers.head-covers, Items.keys-one, Items.keys-none, Spelled.in-stands, Spelled.in-chain}
+use Rattle.dom_chains.proofs.{AfterBeforeLemmas.head-there, AfterBeforeLemmas.has-head, CoversLemmas.head-covers, AllItemsLemmas.keys-one, AllItemsLemmas.keys-none, RechainsLemmas.in-stands, RechainsLemmas.in-chain}
 
 module _ {T : Type 0} (items : List (ℕ × T)) (l : Links) (has : HasChains (key_at items) l) (key : ℕ) where
   pub head-key : (id : ℕ) → head_at l.heads key ≡ Some id → key_at items id ≡ Some key

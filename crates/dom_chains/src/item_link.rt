@@ -3,7 +3,7 @@
 //! Each is as large as a number: the two highest, which no item has, stand for none and for a key that is not covered.
 
 ghost use Rattle.std.specs.Prelude.{◌≡◌, ◌<◌, ◌^◌, Some, None};
-ghost use Rattle.dom_chains.specs.Kept.{head_kept};
+ghost use Rattle.dom_chains.specs.LinkCodes.{head_kept};
 
 use dom_pages::Cell;
 use std::marker::Model;
@@ -14,13 +14,13 @@ const NOT_COVERED: usize = usize::MAX - 1;
 
 /// The number of an item, or none.
 #[derive(Clone, Copy)]
-pub struct Link {
+pub struct ItemLink {
     index: usize,
 }
 
-impl Model for Link {
+impl Model for ItemLink {
     ghost use Rattle.std.specs.Prelude.{◌≡◌, ℕ, Option};
-    ghost use Rattle.dom_chains.specs.Kept.{link_kept, number_kept, number_kept-link_kept};
+    ghost use Rattle.dom_chains.specs.LinkCodes.{link_kept, number_kept, number_kept-link_kept};
 
     ghost Value = { Option ℕ };
 
@@ -33,20 +33,20 @@ impl Model for Link {
     ghost inverse_ok = { λ l h i. record { index = number_kept-link_kept l.index i } };
 }
 
-impl Link {
+impl ItemLink {
     /// Returns a link to nothing.
-    pub(crate) fn none() -> Link
+    pub(crate) fn none() -> ItemLink
         ensures { result ≡ None }
     {
-        Link { index: NOWHERE }
+        ItemLink { index: NOWHERE }
     }
 
     /// Returns a link to an item.
-    pub(crate) fn to(id: usize) -> Link
+    pub(crate) fn to(id: usize) -> ItemLink
         requires { id < 2 ^ 33 }
         ensures { result ≡ Some id }
     {
-        Link { index: id }
+        ItemLink { index: id }
     }
 
     /// Returns the item that it leads to, if any.
@@ -67,22 +67,22 @@ pub(crate) struct HeadCell {
     index: usize,
 }
 
-impl Cell<Link> for HeadCell {
+impl Cell<ItemLink> for HeadCell {
     ghost held = { λ cell. head_kept cell.index };
 
     fn vacant() -> HeadCell {
         HeadCell { index: NOT_COVERED }
     }
 
-    fn of(item: Link) -> HeadCell {
+    fn of(item: ItemLink) -> HeadCell {
         HeadCell { index: item.index }
     }
 
-    fn item(self) -> Option<Link> {
+    fn item(self) -> Option<ItemLink> {
         if self.index == NOT_COVERED {
             None
         } else {
-            Some(Link { index: self.index })
+            Some(ItemLink { index: self.index })
         }
     }
 }

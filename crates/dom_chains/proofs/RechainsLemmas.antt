@@ -5,7 +5,7 @@ use Rattle.dom_model.specs.Definitions.{hits, is_number, head_of, after, before_
 use Rattle.dom_links.specs.LinkSteps.{link_unless}
 use Rattle.dom_links.proofs.ListNeighbourLemmas.{hits-left_out_other, head_of-left_out, after-left_out, before_from-left_out, meets, first_of}
 use Rattle.dom_chains.specs.{Keyed.covers, Chained.Firsts, Chained.head_at, Chained.cover_of, Chained.Links, Chained.link_at, Chained.counted_at, Chained.IsChained, Chained.ForLink, Chained.led, Chained.heads_led, Chained.led_on, Chained.led_back, Chained.led_first, Chained.keys_without, Chained.unchained, Chained.chained_first}
-use Rattle.dom_chains.proofs.{Beside.after-there, Beside.before-there, Beside.head-there, Beside.has-head, Covers.head-within, Covers.head-covers}
+use Rattle.dom_chains.proofs.{AfterBeforeLemmas.after-there, AfterBeforeLemmas.before-there, AfterBeforeLemmas.head-there, AfterBeforeLemmas.has-head, CoversLemmas.head-within, CoversLemmas.head-covers}
 use Rattle.dom_model.proofs.Soundness.SoundEditing.{number_is}
 use Rattle.dom_model.proofs.MutationAlgorithms.Emptied.{none-left_out}
 use Rattle.dom_model.proofs.Forests.Lying.{left_out-absent}

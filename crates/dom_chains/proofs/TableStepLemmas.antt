@@ -2,14 +2,14 @@
 use Rattle.std.proofs.Common.{◌≡◌, ℕ, zero, suc, ◌+◌, ◌-◌, ◌<◌, ◌^◌, ◌==◌, Bool, true, false, List, [], ◌∷◌, ◌++◌, length, map, set, get_or, take, slice_get, swap_remove, Option, Some, None, option_map, refl, sym, ap, ◌∙◌, ⊎_elim, arith}
 use Rattle.std.proofs.lemmas.{Bool.cases_eq, Bool.eq-eqb, Bool.ne_eqb, List.length-map, List.map-set, List.get_or-map, List.get_or_append_left, List.get_or-take, List.length_push, List.map_push, List.take-map, List.length-take-le, Option.slice_get-map, Option.slice_get_read, Option.slice_get_past, Option.get_or_from_slice_get}
 use Rattle.dom_model.specs.Definitions.{hits}
-use Rattle.dom_chains.specs.{declared.table.Seat.Seat, declared.table.Table.Table, Keyed.Keyed, Keyed.key_at, Chained.Firsts, Chained.head_at, Chained.Links, Chained.link_at, Chained.counted_at, Chained.IsChained, Chained.HasChains, Chained.led, Chained.led_back, Chained.led_first, Chained.keys_without, Chained.item_in, Chained.items_of, Chained.keys_in, Chained.links_of, Chained.AreChained}
+use Rattle.dom_chains.specs.{declared.table.Seat.Seat, declared.table.Table.Table, Keyed.Keyed, Keyed.key_at, Chained.Firsts, Chained.head_at, Chained.Links, Chained.link_at, Chained.counted_at, Chained.IsChained, Chained.HasChains, Chained.led, Chained.led_back, Chained.led_first, Chained.keys_without, Chained.seat_item, Chained.items_of, Chained.keys_in, Chained.links_of, Chained.AreChained}
 use Rattle.dom_slots.proofs.ListPlaceLemmas.{slice_get-set_same, slice_get-set_other}
-use Rattle.dom_chains.proofs.Items.{slice_get-pushed, slice_get-cut}
+use Rattle.dom_chains.proofs.AllItemsLemmas.{slice_get-pushed, slice_get-cut}
 
 -- a seat that was read
 module _ {T : Type 0} (seats : List (Seat T)) (id : ℕ) (s : Seat T) (read : s ≡ get_or seats id s) where
-  pub item-read : id < length seats → slice_get (map item_in seats) id ≡ Some (item_in s)
-  item-read within = slice_get-map item_in seats id ∙ ap (option_map item_in) (slice_get_read seats (length seats) id s refl within read)
+  pub item-read : id < length seats → slice_get (map seat_item seats) id ≡ Some (seat_item s)
+  item-read within = slice_get-map seat_item seats id ∙ ap (option_map seat_item) (slice_get_read seats (length seats) id s refl within read)
 
   pub link-read : (f : Seat T → Option ℕ) → id < length seats → f s ≡ link_at (map f seats) id
   link-read f within = ap f read ∙ sym (get_or-map f seats id s None within)
@@ -30,7 +30,7 @@ pub links-are : {prevs prevs' nexts nexts' : List (Option ℕ)} {heads heads' : 
 links-are a b c = λ i. record { prevs = a i; nexts = b i; heads = c i }
 
 pub items-length : {T H : Type 0} (t : Table T H) → length (items_of t) ≡ length t.seats.items
-items-length t = length-map t.seats.items item_in
+items-length t = length-map t.seats.items seat_item
 
 module _ {T H : Type 0} (by_key : H → Firsts) (t : Table T H) where
   pub prevs-length : length (links_of by_key t).prevs ≡ length (items_of t)
@@ -133,11 +133,11 @@ module _ {T H : Type 0} (by_key : H → Firsts) (t t' : Table T H) (heads : by_k
       links-are
       (ap (map (λ (x : Seat T). x.prev)) pushed ∙ map_push (λ (x : Seat T). x.prev) t.seats.items s ∙ ap (λ o. l.prevs ++ o ∷ []) none-before)
       (ap (map (λ (x : Seat T). x.next)) pushed ∙ map_push (λ (x : Seat T). x.next) t.seats.items s ∙ ap (λ o. l.nexts ++ o ∷ []) none-after) heads in
-      let items : items_of t' ≡ items_of t ++ item_in s ∷ [] = ap (map item_in) pushed ∙ map_push item_in t.seats.items s in
+      let items : items_of t' ≡ items_of t ++ seat_item s ∷ [] = ap (map seat_item) pushed ∙ map_push seat_item t.seats.items s in
       record {
         chain = has.chain;
         chained = rw (items, links)
-            (IsChained-keys (keys_in t) _ has.chain _ (without-pushed (items_of t) id (item_in s) last)
+            (IsChained-keys (keys_in t) _ has.chain _ (without-pushed (items_of t) id (seat_item s) last)
             (IsChained-pushed (keys_in t) has.chain l has.chained (omega (arith, few, nexts-length by_key t))));
       }
 
@@ -149,7 +149,7 @@ module _ {T H : Type 0} (by_key : H → Firsts) (t t' : Table T H) (heads : by_k
       links-are
       (ap (map (λ (x : Seat T). x.prev)) cut ∙ sym (take-map (λ (x : Seat T). x.prev) last t.seats.items))
       (ap (map (λ (x : Seat T). x.next)) cut ∙ sym (take-map (λ (x : Seat T). x.next) last t.seats.items)) heads in
-      let items : items_of t' ≡ take last (items_of t) = ap (map item_in) cut ∙ sym (take-map item_in last t.seats.items) in
+      let items : items_of t' ≡ take last (items_of t) = ap (map seat_item) cut ∙ sym (take-map seat_item last t.seats.items) in
       let none : keys_without last (keys_in t) last ≡ None = rw (eq-eqb last last refl) refl in
       record {
         chain = has.chain;

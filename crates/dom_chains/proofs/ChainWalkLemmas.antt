@@ -7,7 +7,7 @@ use Rattle.dom_model.proofs.PlainLists.Heads.{hits-rest, after-first, after-rest
 use Rattle.dom_links.proofs.{ListNeighbourLemmas.after-none, ListNeighbourLemmas.after-left_out, ListNeighbourLemmas.hits-left_out_other, ListLengthLemmas.length-le_from_once}
 use Rattle.dom_chains.specs.{Keyed.key_at, Keyed.on_key, Chained.head_at, Chained.Links, Chained.link_at, Chained.counted_at, Chained.IsChained, Chained.HasChains, Chained.Rechains, Chained.moved}
 use Rattle.dom_slots.proofs.ListPlaceLemmas.{slice_get-set_same, slice_get-set_other}
-use Rattle.dom_chains.proofs.{Items.same-items, Spelled.in-stands, Spelled.once, Spelled.stands-itself}
+use Rattle.dom_chains.proofs.{AllItemsLemmas.same-items, RechainsLemmas.in-stands, RechainsLemmas.once, RechainsLemmas.stands-itself}
 
 -- the items along the links, no more than the fuel
 abbrev pub along : List (Option ℕ) → ℕ → Option ℕ → List ℕ
