@@ -7,7 +7,7 @@ use Rattle.dom_model.specs.Worlds.World as model
 use Rattle.dom_model.proofs.PlainLists.Numbers.{same_or, same, apart}
 use Rattle.dom_model.proofs.Forests.{Changes.seen, Changes.nothing, Changes.just, Totals.IsOnce, Totals.total-beside, Totals.total-placed_under, Entries.occurs-HasNode, Entries.HasNode-occurs, EachNode.EachNode-placed_under, ForestsBeside.IsFrom, ForestsBeside.absent-from, ForestsBeside.entry-younger, KindsFitting.KindsFit-root, Paths.parent-path, Standing.Stands, Standing.Tree, Standing.tree_of}
 use Rattle.dom_model.proofs.Worlds.Measured.{entry-beside}
-use Rattle.dom_tree.specs.Standing.{MayStand}
+use Rattle.dom_tree.specs.PutConditions.{MayStand}
 use Rattle.dom_edit.specs.{declared.world.World.World, Whole.IsWhole, Whole.Follows, Whole.unwatched}
 use Rattle.dom_edit.proofs.Following.{follows-then, keeps-unwatched}
 use Rattle.dom_clone.specs.{declared.waiting.Waiting.Waiting, Growing.made_under, Waits.waiting_for}

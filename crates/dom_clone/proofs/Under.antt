@@ -8,7 +8,7 @@ use Rattle.dom_model.proofs.PlainLists.Numbers.{same_or, same, apart}
 use Rattle.dom_model.proofs.Forests.{Changes.seen, Changes.nothing, Changes.just, Totals.total-tree_at, Totals.total-put, Totals.tree_at-absent, Entries.occurs-HasNode, Entries.HasNode-occurs, Climbing.hits-ancestors, Climbing.hits-not_among, Climbing.not_among-hits, Documents.HasDocument-entry, Documents.HasOneDocument-put, Documents.adopted-put_same, OneMoreRoot.entry-more, OneMoreRoot.entry-new, OneMoreRoot.parent-new, ForestsBeside.ancestors-older}
 use Rattle.dom_model.proofs.Worlds.Owners.{HasOwners-put}
 use Rattle.dom_model.proofs.Soundness.{SoundPlacing.sound-put_one, SoundWorlds.statics-kept}
-use Rattle.dom_tree.specs.Standing.{MayStand}
+use Rattle.dom_tree.specs.PutConditions.{MayStand}
 use Rattle.dom_observe.specs.Watchers.{Watches}
 use Rattle.dom_edit.specs.{declared.world.World.World, Whole.IsWhole, Whole.Keeps, Whole.Follows, Whole.unwatched}
 use Rattle.dom_edit.proofs.{Covering.covered-kept, Following.follows-then, Following.keeps-unwatched, Following.sound-unwatched, Following.whole-sound}

@@ -9,7 +9,7 @@ ghost use Rattle.dom_model.specs.Forests.Forest.{HasNode, size, entry_in};
 ghost use Rattle.dom_model.specs.Worlds.Making.{made_node};
 ghost use Rattle.dom_model.specs.Forests.Nodes.{is_of_kind};
 ghost use Rattle.dom_model.specs.DataAndCopies.Clones.{original, with_copies, clone_node, import_node};
-ghost use Rattle.dom_tree.specs.Standing.{MayStand};
+ghost use Rattle.dom_tree.specs.PutConditions.{MayStand};
 ghost use Rattle.dom_edit.specs.Whole.{IsWhole, Follows};
 ghost use Rattle.dom_edit.specs.Refusals.{check_adopt, IsRefused};
 ghost use Rattle.dom_clone.specs.Growing.{made_under};

@@ -5,7 +5,7 @@ use Rattle.dom_model.specs.declared.{Kind.Kind, Kind.TheVariants.Element, Kind.T
 use Rattle.dom_model.specs.Definitions.{is_kind, may_be_parent, Entry, Node, Forest, Grove, entry_in, parent_of, ancestors, put, entry_has, is_of_kind, kind_passes, Content, Observing, check_insert, document_in, remove, removed_from, freed, append, IsInsertable, append_edits}
 use Rattle.dom_model.proofs.Forests.{Climbing.not_among-hits, Entries.occurs-HasNode}
 use Rattle.dom_observe.specs.Watchers.{Watches}
-use Rattle.dom_tree.specs.{Owned.document_at, Standing.takes_leaf, Standing.IsLeafFor}
+use Rattle.dom_tree.specs.{NodeDocuments.document_at, PutConditions.takes_leaf, PutConditions.IsLeafFor}
 use Rattle.dom_tree.proofs.LeavesPut.{leaf-outside}
 use Rattle.dom_edit.specs.{declared.world.World.World, Inserting.placed_in, Inserting.IsOpen, Keeping.KeepsNodes, Markers.StandByEdits, Whole.IsWhole, Whole.Follows}
 use Rattle.dom_edit.proofs.{Following.follows-none, InsertedNodes.follows-as, InsertedNodes.alone-entering, InsertedNodes.follows-freed_alone, InsertedNodes.open-freed, InsertedNodes.follows-insert, InsertedNodes.nodes-placed, Marking.stand-by_pre_insert, NodesKept.nodes-none, PlacedRoots.placed-same, PlacedWorlds.with_placed, PlacedWorlds.placing, PlacedWorlds.follows-placing, PlacedWorlds.whole-placed, ReplacedNodes.follows-pre_insert, Unheard.follows-unheard, Unrefused.unrefused, WatchersKept.watchers-ranged}

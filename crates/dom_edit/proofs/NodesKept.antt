@@ -7,7 +7,7 @@ use Rattle.dom_model.specs.Definitions.{is_number, Forest, Grove, HasNode, occur
 use Rattle.dom_model.proofs.PlainLists.{Numbers.same_or, Numbers.same, Numbers.apart, Members.hits-last_of}
 use Rattle.dom_model.proofs.Forests.{Entries.HasNode-occurs, Entries.occurs-HasNode, Indices.child-there, Siblings.index-step}
 use Rattle.dom_model.proofs.Soundness.SoundWorlds.{child_there}
-use Rattle.dom_tree.proofs.Beside.{forward-step}
+use Rattle.dom_tree.proofs.SiblingLemmas.{forward-step}
 use Rattle.dom_edit.specs.{declared.world.World.World, Whole.IsWhole, Inserting.reference_in, Inserting.AreThere, Keeping.present, Keeping.KeepsWatchers, Keeping.KeepsLabels, Keeping.KeepsNodes}
 use Rattle.dom_ranges.specs.Tables.{RangeTable}
 use Rattle.dom_observe.specs.Held.{SameObservers}

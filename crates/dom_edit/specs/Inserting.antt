@@ -10,7 +10,7 @@ use Rattle.dom_model.specs.Forests.Nodes.{is_of_kind}
 use Rattle.dom_model.specs.MutationAlgorithms.Editing.{document_in}
 use Rattle.dom_model.specs.MutationAlgorithms.Insertable.{ArePlaceable, IsChildOf}
 use Rattle.dom_ranges.specs.Tables.{live_nodes}
-use Rattle.dom_tree.specs.Standing.{IsLeafFor, HasManyChildren}
+use Rattle.dom_tree.specs.PutConditions.{IsLeafFor, HasManyChildren}
 use Rattle.dom_edit.specs.declared.world.World.{World}
 use Rattle.dom_edit.specs.declared.inserting.Incoming.{Incoming}
 use Rattle.dom_edit.specs.declared.inserting.Incoming.TheVariants.{Alone, Children}

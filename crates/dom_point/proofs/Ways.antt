@@ -4,8 +4,8 @@ use Rattle.std.specs.Ordering.{nat_cmp}
 use Rattle.dom_model.specs.Definitions.{hits, Grove, HasNode, parent_of, index_of, ancestors, IsForest, Point, order_of, common_ancestor}
 use Rattle.dom_model.proofs.Forests.{Climbing.among-hits, Chains.index-apart, Indices.parent-there, Entries.occurs-HasNode, WaysMeeting.met-first, WaysMeeting.met-second, WaysMeeting.met-between}
 use Rattle.dom_model.proofs.BoundaryPoints.{PointOrder.order-one_node, PointOrder.order-above, OrderByWays.path-through, OrderByWays.order-below, OrderByWays.order-beside}
-use Rattle.dom_tree.specs.Ways.{IsOnWay, AreApart}
-use Rattle.dom_tree.proofs.Ways.{way-held}
+use Rattle.dom_tree.specs.PathsUp.{IsOnWay, AreApart}
+use Rattle.dom_tree.proofs.PathsUpLemmas.{way-held}
 
 module _ {X : Type 0} {g : Grove X} (s : IsForest g) where
   -- where ways that meet come from different children, they meet in the deepest node above both

@@ -4,7 +4,7 @@ ghost use Rattle.std.specs.Prelude.{◌≡◌, IsSome, if◌then◌else◌};
 ghost use Rattle.std.specs.declared.cmp.Ordering.TheVariants.{Less, Greater};
 ghost use Rattle.dom_model.specs.Forests.Forest.{HasNode, parent_of, root_of};
 ghost use Rattle.dom_model.specs.BoundaryPoints.Points.{order_of};
-ghost use Rattle.dom_tree.specs.Ways.{IsOnWay, AreApart};
+ghost use Rattle.dom_tree.specs.PathsUp.{IsOnWay, AreApart};
 
 use crate::point::Point;
 use dom_tree::{Meeting, NodeId, Tree};

@@ -1,6 +1,6 @@
 -- The next sibling is there.
 use Rattle.std.proofs.Common.{sym, ◌∙◌}
-use Rattle.dom_tree.proofs.Beside.{forward-step}
+use Rattle.dom_tree.proofs.SiblingLemmas.{forward-step}
 use Rattle.dom_data.proofs.normalizing.next_text.Goals as goal
 
 pub is_of_kind-requires : goal.is_of_kind-requires

@@ -2,7 +2,7 @@
 use Rattle.std.proofs.Common.{rules, of_calls}
 use Rattle.std.specs.Map.{keys_of}
 use Rattle.dom_model.specs.Definitions.{among}
-use Rattle.dom_tree.proofs.Asking.{asked-found}
+use Rattle.dom_tree.proofs.FirstFoundLemmas.{asked-found}
 use Rattle.dom_observe.proofs.Outcomes.{by_either}
 use Rattle.dom_observe.proofs.naming.is_named.Goals as goal
 

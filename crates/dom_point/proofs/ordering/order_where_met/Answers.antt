@@ -2,7 +2,7 @@
 use Rattle.std.proofs.Common.{◌≡◌, ℕ, ◌<◌, ◌≤◌, nat_lt, nat_le, true, false, if◌then◌else◌, Option, sym, ap, ◌∙◌, refl, subst, arith, ⊎_elim, Ordering, Less, Greater}
 use Rattle.std.proofs.lemmas.{Bool.cases_lt, Bool.lt-ltb, Bool.le-ltb, Bool.Decides.nat_tests}
 use Rattle.dom_model.specs.Definitions.{Forest, HasNode, index_of, Point, order_of}
-use Rattle.dom_tree.specs.Ways.{IsOnWay}
+use Rattle.dom_tree.specs.PathsUp.{IsOnWay}
 use Rattle.dom_point.proofs.Ways.{order-same, order-at_first, order-at_second, order-between}
 use Rattle.dom_point.proofs.ordering.order_where_met.Goals as goal
 

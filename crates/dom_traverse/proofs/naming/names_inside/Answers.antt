@@ -1,7 +1,7 @@
 -- What the walk asks of a node is whether it is named.
 use Rattle.std.proofs.Common.{◌≡◌, sym, ◌∙◌, rules, of_calls}
 use Rattle.dom_model.specs.Definitions.{among}
-use Rattle.dom_tree.proofs.Asking.{asked-found}
+use Rattle.dom_tree.proofs.FirstFoundLemmas.{asked-found}
 use Rattle.dom_traverse.specs.Naming.{is_named}
 use Rattle.dom_traverse.proofs.naming.names_inside.Goals as goal
 

@@ -1,7 +1,7 @@
 -- By the nodes inside, else by each end.
 use Rattle.std.proofs.Common.{◌∙◌, tests, rules, of_calls}
 use Rattle.dom_model.specs.Definitions.{among, inclusive_descendants}
-use Rattle.dom_tree.proofs.Asking.{asked-found}
+use Rattle.dom_tree.proofs.FirstFoundLemmas.{asked-found}
 use Rattle.dom_ranges.specs.Tables.{live_nodes}
 use Rattle.dom_ranges.proofs.Tables.{any-told}
 use Rattle.dom_ranges.proofs.ranges.Ranges.refers_within.Goals as goal

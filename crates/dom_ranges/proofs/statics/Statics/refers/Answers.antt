@@ -2,7 +2,7 @@
 use Rattle.std.proofs.Common.{ℕ, List, Option, ap, ◌∙◌, rules, of_calls}
 use Rattle.std.specs.List.{list_any, flat_map}
 use Rattle.dom_model.specs.Definitions.{among, inclusive_descendants, Range, nodes_of_range, nodes_unless_released}
-use Rattle.dom_tree.proofs.Asking.{asked-found}
+use Rattle.dom_tree.proofs.FirstFoundLemmas.{asked-found}
 use Rattle.dom_ranges.proofs.EndsCounted.{any-by_slot}
 use Rattle.dom_ranges.proofs.statics.Statics.refers.Goals as goal
 
