@@ -9,7 +9,7 @@ use Rattle.dom_model.proofs.Forests.Entries.{occurs-HasNode}
 use Rattle.dom_model.proofs.Soundness.{SoundEditing.clear, SoundRangeSteps.live_range, SoundRangeSteps.sound-with_range, SoundWorlds.IsLive}
 use Rattle.dom_model.proofs.RangesAndContents.RangesSet.{range_collapsed, range_at_point, range-start_set, range-end_set, boundary_checked, range_selected, range_of_contents}
 use Rattle.dom_model.proofs.TokenText.{AlikeTrees.TreesAlike.bared, Marked.MarkedTexts.Marked, Marked.MarkedFirst.marked-kept, Marked.MarkedEdits.marked-edits, Marked.MarkedEdits.end-found, Pieces.NodeTokens.tokens-same, EditsMade.FittingEdits.ready-sound, EditsMade.EditsLeave.laid, EditsMade.EditsLeave.Leave, EditsMade.EditsOfSteps.leave-ends, EditsMade.MarkersKept.marked-own}
-use Rattle.dom_point.specs.Refusals.{refused}
+use Rattle.dom_point.specs.Refusals.{result_of_check}
 use Rattle.dom_ranges.specs.{Tables.RangeTable, Tables.range_in, Markers.StandAsEdited, Markers.StandByEdits, Markers.IsNestedAs, Markers.IsMeasuredAs, Markers.HasPoint, Markers.IsAny}
 
 -- a range of the forest in place of another
@@ -64,7 +64,7 @@ by_tree : (old new : RangeTable) (r : ℕ) (told next : Range → Range) → ((r
 by_tree old new r told next alike set = subst (IsSet old new r) (sym (fun_ext alike)) set
 
 -- nothing was refused
-unrefused : (o : Option DomError) → Ok tt ≡ refused o → o ≡ None
+unrefused : (o : Option DomError) → Ok tt ≡ result_of_check o → o ≡ None
 unrefused None e = refl
 unrefused (Some x) e = absurd (cc e)
 
@@ -102,27 +102,27 @@ module _ {X : Type 0} (measure : X → ℕ) (f : Forest X) (w : World) (a : IsMe
       ap (λ b. first_refusal ((b, InvalidNodeTypeError) ∷ (nat_lt (node_length unit_count w.forest p.node) p.offset, IndexSizeError) ∷ [])) (a.doctypes p.node)
       ∙ ap (λ k. first_refusal ((is_of_kind DocumentType f p.node, InvalidNodeTypeError) ∷ (nat_lt k p.offset, IndexSizeError) ∷ [])) (a.lengths p.node)
 
-  pub boundary : (p : Point) → HasNode f p.node → Ok tt ≡ refused (check_point measure f p) → IsBoundary w.forest p
+  pub boundary : (p : Point) → HasNode f p.node → Ok tt ≡ result_of_check (check_point measure f p) → IsBoundary w.forest p
   boundary p there e = boundary_checked w.forest p (occurs-HasNode w.forest p.node (a.there p.node there)) (point-alike p ∙ unrefused (check_point measure f p) e)
 
 -- The calls.
 
 module _ {X : Type 0} (measure : X → ℕ) (f : Forest X) (old new : RangeTable) (r : ℕ) (held : IsSome (range_in old r)) where
-  pub start-stands : (p : Point) (result : Result (Unit {0}) DomError) → HasNode f p.node → result ≡ refused (check_point measure f p) → OnOk result (IsSet old new r (start_set f p)) →
+  pub start-stands : (p : Point) (result : Result (Unit {0}) DomError) → HasNode f p.node → result ≡ result_of_check (check_point measure f p) → OnOk result (IsSet old new r (start_set f p)) →
       OnOk result (StandByEdits (IsMeasuredAs measure f) old new (start_edits r p))
   start-stands p (Err e) there told set = tt
   start-stands p (Ok u) there told set = λ w s same a.
       stands w s old new same r (start_set w.forest p) held (λ range h. range-start_set w.forest p range (boundary measure f w a p there told) h)
       (by_tree old new r (start_set f p) (start_set w.forest p) (starts-alike f w a.nested p) set)
 
-  pub end-stands : (p : Point) (result : Result (Unit {0}) DomError) → HasNode f p.node → result ≡ refused (check_point measure f p) → OnOk result (IsSet old new r (end_set f p)) →
+  pub end-stands : (p : Point) (result : Result (Unit {0}) DomError) → HasNode f p.node → result ≡ result_of_check (check_point measure f p) → OnOk result (IsSet old new r (end_set f p)) →
       OnOk result (StandByEdits (IsMeasuredAs measure f) old new (end_edits r p))
   end-stands p (Err e) there told set = tt
   end-stands p (Ok u) there told set = λ w s same a.
       stands w s old new same r (end_set w.forest p) held (λ range h. range-end_set w.forest p range (boundary measure f w a p there told) h)
       (by_tree old new r (end_set f p) (end_set w.forest p) (ends-alike f w a.nested p) set)
 
-  pub contents-stand : (n : ℕ) (result : Result (Unit {0}) DomError) → HasNode f n → result ≡ refused (check_contents f n) →
+  pub contents-stand : (n : ℕ) (result : Result (Unit {0}) DomError) → HasNode f n → result ≡ result_of_check (check_contents f n) →
       OnOk result (new ≡ record old { ranges = slice_set old.ranges r (Some (contents_of measure f n)) }) →
       OnOk result (StandByEdits (IsMeasuredAs measure f) old new (λ w. ends_edits_at r (contents_of unit_count w.forest n) w))
   contents-stand n (Err e) there told set = tt
@@ -165,7 +165,7 @@ module _ {X : Type 0} (f : Forest X) (old new : RangeTable) (r : ℕ) (held : Is
           all_ranges None k = tt
           all_ranges (Some range) k = k
 
-  pub select-stands : (n : ℕ) (result : Result (Unit {0}) DomError) → result ≡ refused (check_parent f n) →
+  pub select-stands : (n : ℕ) (result : Result (Unit {0}) DomError) → result ≡ result_of_check (check_parent f n) →
       OnOk result (IfSome (around f n) (λ range. new ≡ record old { ranges = slice_set old.ranges r (Some range) })) →
       OnOk result (StandByEdits (IsNestedAs f) old new (λ w. select_edits r (around w.forest n) w))
   select-stands n (Err e) told set = tt

@@ -11,7 +11,7 @@ use Rattle.dom_model.specs.Forests.Nodes.{is_of_kind}
 use Rattle.dom_model.specs.Worlds.Lengths.{node_length}
 use Rattle.dom_model.specs.MutationAlgorithms.Discarding.{nodes_of_range, nodes_unless_released}
 pub use Rattle.dom_chains.specs.Keyed.{covers, covered_to}
-pub use Rattle.dom_point.specs.Refusals.{refused}
+pub use Rattle.dom_point.specs.Refusals.{result_of_check}
 
 -- the live ranges by number, none where one was released, and for each node whether it is covered: only there an end may stand
 pub record RangeTable : Type 0 where

@@ -11,7 +11,7 @@ ghost use Rattle.dom_model.specs.Commands.Command.{SelectNode, SelectNodeContent
 ghost use Rattle.dom_model.specs.TokenText.Edits.{ends_edits_at};
 ghost use Rattle.dom_model.specs.TokenText.CommandEdits.{start_edits, end_edits, command_edits};
 ghost use Rattle.dom_ranges.specs.Markers.{StandByEdits, IsNestedAs, IsMeasuredAs, HasPoint, IsAny};
-ghost use Rattle.dom_ranges.specs.Tables.{IsCovered, range_in, with_range, RangeIsSet, RangeBecomes, StandsIn, refused};
+ghost use Rattle.dom_ranges.specs.Tables.{IsCovered, range_in, with_range, RangeIsSet, RangeBecomes, StandsIn, result_of_check};
 
 use crate::numbers::RangeId;
 use crate::ranges::Ranges;
@@ -31,7 +31,7 @@ impl Ranges {
         requires node { HasNode tree.old.forest p.node }
         requires covered { IsCovered self.old p.node }
         requires stands { ForSome (range_in self.old r) (StandsIn tree.old.forest) }
-        ensures refusal { result ≡ refused (check_point X.length tree.old.forest p) }
+        ensures refusal { result ≡ result_of_check (check_point X.length tree.old.forest p) }
         ensures set { OnOk result (RangeBecomes r (start_set tree.old.forest p) self.old self.new) }
         ensures markers { OnOk result (StandByEdits (IsMeasuredAs X.length tree.old.forest) self.old
             self.new (start_edits r p)) }
@@ -59,7 +59,7 @@ impl Ranges {
         requires node { HasNode tree.old.forest p.node }
         requires covered { IsCovered self.old p.node }
         requires stands { ForSome (range_in self.old r) (StandsIn tree.old.forest) }
-        ensures refusal { result ≡ refused (check_point X.length tree.old.forest p) }
+        ensures refusal { result ≡ result_of_check (check_point X.length tree.old.forest p) }
         ensures set { OnOk result (RangeBecomes r (end_set tree.old.forest p) self.old self.new) }
         ensures markers { OnOk result (StandByEdits (IsMeasuredAs X.length tree.old.forest) self.old
             self.new (end_edits r p)) }
@@ -81,7 +81,7 @@ impl Ranges {
         requires held { IsSome (range_in self.old r) }
         requires node { HasNode tree.now.forest node }
         requires covered { ForSome (parent_of tree.now.forest node) (IsCovered self.old) }
-        ensures refusal { result ≡ refused (check_parent tree.now.forest node) }
+        ensures refusal { result ≡ result_of_check (check_parent tree.now.forest node) }
         ensures set { OnOk result (RangeIsSet r (around tree.now.forest node) self.old self.new) }
         ensures markers { OnOk result (StandByEdits (IsNestedAs tree.now.forest) self.old self.new
             (command_edits (SelectNode r node))) }
@@ -118,7 +118,7 @@ impl Ranges {
         requires held { IsSome (range_in self.old r) }
         requires node { HasNode tree.now.forest node }
         requires covered { IsCovered self.old node }
-        ensures refusal { result ≡ refused (check_contents tree.now.forest node) }
+        ensures refusal { result ≡ result_of_check (check_contents tree.now.forest node) }
         ensures set { OnOk result
             (self.new ≡ with_range r (contents_of X.length tree.now.forest node) self.old) }
         ensures markers { OnOk result (StandByEdits (IsMeasuredAs X.length tree.now.forest) self.old

@@ -10,7 +10,7 @@ ghost use Rattle.dom_model.specs.RangesAndContents.StaticRanges.{check_static, i
 ghost use Rattle.dom_model.specs.MutationAlgorithms.Discarding.{nodes_of_range, nodes_unless_released};
 ghost use Rattle.dom_model.specs.Worlds.Lengths.{node_length};
 ghost use Rattle.dom_pages.specs.Numbered.{item_at};
-ghost use Rattle.dom_ranges.specs.Tables.{refused};
+ghost use Rattle.dom_ranges.specs.Tables.{result_of_check};
 
 use crate::counts::EndCounts;
 use dom_ids::Id;
@@ -80,7 +80,7 @@ impl Statics {
     pub fn check<X>(tree: &Tree<X>, start: NodeId, end: NodeId) -> Result<(), DomError>
         requires start_held { HasNode tree.now.forest start }
         requires end_held { HasNode tree.now.forest end }
-        ensures { result ≡ refused (check_static tree.now.forest start end) }
+        ensures { result ≡ result_of_check (check_static tree.now.forest start end) }
     {
         if tree.is_of_kind(start, Kind::DocumentType) || tree.is_of_kind(end, Kind::DocumentType) {
             return Err(DomError::InvalidNodeTypeError);

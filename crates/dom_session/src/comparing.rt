@@ -7,7 +7,7 @@ ghost use Rattle.dom_model.specs.Worlds.World.{Range};
 ghost use Rattle.dom_model.specs.RangesAndContents.Ranges.{place_against, is_point_in, intersects};
 ghost use Rattle.dom_model.specs.Commands.Command.{CompareBoundaryPoints, ComparePoint, IsPointInRange, IntersectsNode, CommonAncestor};
 ghost use Rattle.dom_model.specs.Commands.Guards.{Bounds};
-ghost use Rattle.dom_ranges.specs.Tables.{StandsIn, refused};
+ghost use Rattle.dom_ranges.specs.Tables.{StandsIn, result_of_check};
 ghost use Rattle.dom_edit.specs.Whole.{IsShown};
 ghost use Rattle.dom_session.specs.Views.{comparing_view};
 ghost use Rattle.dom_session.specs.Stands.{IsStep};

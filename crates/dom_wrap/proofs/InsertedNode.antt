@@ -11,7 +11,7 @@ use Rattle.dom_model.proofs.RangesAndContents.{StartsAhead.got_place, InsertAllo
 use Rattle.dom_model.proofs.Soundness.{SoundPlacedNode.Gives, SoundInsertedNode.insert-next, SoundData.length-data, SoundSplitting.text_has_data, SoundRangeSteps.live_range, SoundWorlds.IsLive}
 use Rattle.dom_edit.proofs.{Leaving.parent-held, Following.keeps-unwatched, Following.follows-then, Following.whole-sound, PlacedWorlds.sound-unwatched, InsertedNodes.follows-as, InsertedNodes.forest-after}
 use Rattle.dom_model.proofs.MutationAlgorithms.ChecksKept.{refusal-head}
-use Rattle.dom_ranges.specs.Tables.{RangeTable, range_in, refused}
+use Rattle.dom_ranges.specs.Tables.{RangeTable, range_in, result_of_check}
 use Rattle.dom_edit.specs.{declared.world.World.World, Whole.AreCovered, Whole.IsWhole, Whole.Keeps, Whole.Follows, Whole.unwatched}
 use Rattle.dom_wrap.specs.Outcomes.{left_by, LeavesSound, IsPlaceable, MayEndAt, MayTake}
 
@@ -125,11 +125,11 @@ module _ (v : World) (h : IsWhole v) (r : ℕ) (p : Point) (range : Range) (e : 
       within whole o le = grind (arith, nat_tests)
 
   -- to set the end is not refused
-  pub set-done : MayEndAt v r p → is_collapsed range ≡ true → (t : RangeTable) (result : Result (Unit {0}) DomError) → result ≡ refused (check_point unit_count v.tree.forest p) →
+  pub set-done : MayEndAt v r p → is_collapsed range ≡ true → (t : RangeTable) (result : Result (Unit {0}) DomError) → result ≡ result_of_check (check_point unit_count v.tree.forest p) →
       OnOk result (IfSome (range_in v.ranges r) (λ x. t ≡ record v.ranges { ranges = slice_set v.ranges.ranges r (Some (end_set v.tree.forest p x)) })) →
       t ≡ record v.ranges { ranges = slice_set v.ranges.ranges r (Some (end_set v.tree.forest p range)) }
   set-done m c t result i set =
-      let passes = i ∙ ap refused (point-passes (grown-range m c).ends) in
+      let passes = i ∙ ap result_of_check (point-passes (grown-range m c).ends) in
       let done = subst (λ (x : Result (Unit {0}) DomError). OnOk x (IfSome (range_in v.ranges r) (λ x. t ≡ record v.ranges { ranges = slice_set v.ranges.ranges r (Some (end_set v.tree.forest p x)) }))) passes set in
       subst (λ (o : Option Range). IfSome o (λ x. t ≡ record v.ranges { ranges = slice_set v.ranges.ranges r (Some (end_set v.tree.forest p x)) })) e done
 

@@ -3,8 +3,8 @@ use Rattle.std.proofs.Common.{◌≡◌, ℕ, ◌<◌, ◌≤◌, nat_lt, nat_le
 use Rattle.std.proofs.lemmas.{Bool.cases_lt, Bool.lt-ltb, Bool.le-ltb, Bool.Decides.nat_tests}
 use Rattle.dom_model.specs.Definitions.{Forest, HasNode, index_of, Point, order_of}
 use Rattle.dom_tree.specs.PathsUp.{IsOnWay}
-use Rattle.dom_point.proofs.Ways.{order-same, order-at_first, order-at_second, order-between}
-use Rattle.dom_point.proofs.ordering.order_where_met.Goals as goal
+use Rattle.dom_point.proofs.MeetingLemmas.{order-same, order-at_first, order-at_second, order-between}
+use Rattle.dom_point.proofs.point_order.order_where_met.Goals as goal
 
 turned : (i a : ℕ) → ◌≡◌ {A = Ordering} (if nat_le a i then Less else Greater) (if nat_lt i a then Greater else Less)
 turned i a =

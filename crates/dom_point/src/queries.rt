@@ -5,10 +5,10 @@ ghost use Rattle.dom_model.specs.Forests.Forest.{HasNode, index_of, parent_of, r
 ghost use Rattle.dom_model.specs.Forests.Nodes as nodes;
 ghost use Rattle.dom_model.specs.RangesAndContents.Ranges as ranges;
 ghost use Rattle.dom_model.specs.RangesAndContents.Ranges.{check_point, around};
-ghost use Rattle.dom_point.specs.Refusals.{refused};
+ghost use Rattle.dom_point.specs.Refusals.{result_of_check};
 
-use crate::ordering::{found_order, order};
 use crate::point::Point;
+use crate::point_order::{found_order, order};
 use dom_kinds::{DomError, Kind};
 use dom_tree::{Body, NodeId, Tree};
 use std::cmp::Ordering;
@@ -49,7 +49,7 @@ pub fn found_before<X>(tree: &mut Tree<X>, a: Point, b: Point) -> bool
 /// Checks a boundary point: refuses a doctype, and an offset past the node's length.
 pub fn checked_point<X: Body>(tree: &Tree<X>, node: NodeId, offset: usize) -> Result<(), DomError>
     requires { HasNode tree.now.forest node }
-    ensures { result ≡ refused (check_point X.length tree.now.forest
+    ensures { result ≡ result_of_check (check_point X.length tree.now.forest
         (record { node = node; offset = offset })) }
 {
     if tree.is_of_kind(node, Kind::DocumentType) {

@@ -2,7 +2,7 @@ use Rattle.std.proofs.Common.{arith}
 use Rattle.dom_model.specs.Definitions.{children_of}
 use Rattle.dom_model.proofs.Forests.{Entries.occurs-HasNode, Indices.child-listed, Indices.index-child, Above.above}
 use Rattle.dom_model.proofs.PlainLists.Places.{place-there}
-use Rattle.dom_point.proofs.questions.around_child.Goals as goal
+use Rattle.dom_point.proofs.queries.around_child.Goals as goal
 
 pub count-requires : goal.count-requires
 count-requires g c = (above c.sound.ensures c.args.child c.args.parent c.requires.held c.requires.child).there

@@ -37,16 +37,16 @@ pub fn found_order<X>(tree: &mut Tree<X>, a: Point, b: Point) -> Ordering
     tree.sound();
     let meeting = tree.meeting(a.node, b.node);
     match (meeting.first, meeting.second) {
-        (None, Some(child)) if a.offset != 0 => find_index(tree, child),
-        (Some(child), None) if b.offset != 0 => find_index(tree, child),
-        (Some(first), Some(second)) => find_order(tree, first, second),
+        (None, Some(child)) if a.offset != 0 => cache_index(tree, child),
+        (Some(child), None) if b.offset != 0 => cache_index(tree, child),
+        (Some(first), Some(second)) => cache_order(tree, first, second),
         _ => {}
     }
     order_where_met(tree, meeting, a, b)
 }
 
 // Caches the index of a node for the next query.
-fn find_index<X>(tree: &mut Tree<X>, node: NodeId)
+fn cache_index<X>(tree: &mut Tree<X>, node: NodeId)
     requires { HasNode tree.old.forest node }
     ensures { tree.new ≡ tree.old }
 {
@@ -54,7 +54,7 @@ fn find_index<X>(tree: &mut Tree<X>, node: NodeId)
 }
 
 // Caches which of two children of one parent comes first, for the next query.
-fn find_order<X>(tree: &mut Tree<X>, first: NodeId, second: NodeId)
+fn cache_order<X>(tree: &mut Tree<X>, first: NodeId, second: NodeId)
     requires first_held { HasNode tree.old.forest first }
     requires second_held { HasNode tree.old.forest second }
     requires one_parent { parent_of tree.old.forest first ≡ parent_of tree.old.forest second }
