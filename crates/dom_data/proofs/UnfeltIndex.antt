@@ -2,7 +2,7 @@
 use Rattle.std.proofs.Common.{◌≡◌, ℕ, ◌==◌, Bool, true, false, refl, ap, sym, ◌∙◌}
 use Rattle.dom_model.specs.Definitions.{among, Point, map_ranges}
 use Rattle.dom_ranges.specs.Tables.{RangeTable, live_nodes}
-use Rattle.dom_ranges.proofs.Inside.{ranges-alike}
+use Rattle.dom_ranges.proofs.ForgetInsideLemmas.{ranges-alike}
 use Rattle.dom_model.proofs.RangesAndContents.RangesElsewhere.{among-any}
 
 -- a move by an index that matters in the parent alone is the same by any two indices, unless a live range stands there

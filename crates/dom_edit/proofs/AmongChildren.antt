@@ -7,7 +7,7 @@ use Rattle.dom_model.specs.Definitions.{hits, head_of, after, from_first, list_u
 use Rattle.dom_model.proofs.PlainLists.{FromFirst.from-last, FromFirst.from-after}
 use Rattle.dom_model.proofs.Forests.{Changes.seen, Changes.nothing, Changes.just, Climbing.hits-first, PutBack.hits-after, Entries.HasNode-occurs, Indices.child-parent, Indices.child-there}
 use Rattle.dom_edit.specs.Places.{from_optional, IsAmong}
-use Rattle.dom_ranges.proofs.Inside.{from-fewer}
+use Rattle.dom_ranges.proofs.ForgetInsideLemmas.{from-fewer}
 
 -- from the head on there is the whole list
 pub from_optional-head : (xs : List ℕ) → from_optional (head_of xs) xs ≡ xs

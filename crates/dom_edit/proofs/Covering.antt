@@ -5,7 +5,7 @@ use Rattle.dom_model.specs.Definitions.{hits, Grove, HasNode, occurs, IsForest, 
 use Rattle.dom_model.proofs.PlainLists.Heads.{hits-rest}
 use Rattle.dom_model.proofs.Forests.{Entries.occurs-HasNode, Entries.HasNode-occurs, Listed.hits-itself}
 use Rattle.dom_ranges.specs.Tables.{covers, covered_to, uncovered}
-use Rattle.dom_ranges.proofs.Covers.{covers-to, covers-new, covered_to-length}
+use Rattle.dom_ranges.proofs.CoversLemmas.{covers-to, covers-new, covered_to-length}
 use Rattle.dom_edit.specs.Whole.{AreCovered}
 
 -- no node comes in, and as many nodes were made

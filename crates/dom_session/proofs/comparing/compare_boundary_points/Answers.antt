@@ -1,7 +1,7 @@
 use Rattle.std.proofs.Common.{◌≡◌, ℕ, Option, ap, sym, ◌∙◌, arith}
 use Rattle.std.proofs.lemmas.Grind.{common_steps}
 use Rattle.dom_model.specs.Definitions.{Point, root_of}
-use Rattle.dom_ranges.proofs.Ends.{one-root}
+use Rattle.dom_ranges.proofs.SameRootLemmas.{one-root}
 use Rattle.dom_session.proofs.RangeFacts.{range-held}
 use Rattle.dom_session.proofs.comparing.compare_boundary_points.Goals.{then-how-eq3, else-how-eq3, then-how-eq1, else-how-eq1}
 use Rattle.dom_session.proofs.comparing.compare_boundary_points.Goals as goal

@@ -1,7 +1,7 @@
 use Rattle.std.proofs.Common.{sym, ap, ◌∙◌}
 use Rattle.dom_model.specs.Definitions.{Point, root_of}
 use Rattle.dom_model.proofs.Forests.Above.{above}
-use Rattle.dom_ranges.proofs.Ends.{one-root}
+use Rattle.dom_ranges.proofs.SameRootLemmas.{one-root}
 use Rattle.dom_session.proofs.RangeFacts.{around-parent, root-above}
 use Rattle.dom_session.proofs.comparing.meets.Goals as goal
 
