@@ -5,7 +5,7 @@ use Rattle.dom_model.specs.declared.{Kind.Kind, Kind.TheVariants.Text, Kind.TheV
 use Rattle.dom_model.specs.Definitions.{among, is_number, first_refusal, is_kind, may_be_parent, Forest, Grove, IsForest, parent_of, ancestors, inclusive_descendants, kind_passes, is_of_kind, if_given, is_misplaced, kind_refuses, Content}
 use Rattle.dom_model.proofs.Forests.ToTheRoot.{inside-same}
 use Rattle.dom_tree.specs.Spots.{Spot}
-use Rattle.dom_traverse.proofs.Spots.{told_at}
+use Rattle.dom_traverse.proofs.SpotLemmas.{told_at}
 use Rattle.dom_edit.specs.{declared.surroundings.Place.Place, Places.child_of, Places.refuses, Places.conditions_at}
 use Rattle.dom_edit.proofs.checks.check.Goals as goal
 use Rattle.dom_edit.proofs.checks.check.Goals.{then-is_misplaced-via-then-is_misplaced, then-is_misplaced-via-else-is_misplaced+then-is_inside-2, else-eq-via-then-eq+else-is_refused, else-eq-via-else-eq}

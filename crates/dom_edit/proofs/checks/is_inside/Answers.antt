@@ -5,7 +5,7 @@ use Rattle.dom_model.specs.Definitions.{head_of, Grove, parent_of, children_of, 
 use Rattle.dom_model.proofs.Forests.{Above.above, ToTheRoot.shorter, ToTheRoot.among-above, ToTheRoot.among-here, ToTheRoot.among-top, ToTheRoot.inside-same}
 use Rattle.dom_tree.specs.Spots.{Spot, node_at}
 use Rattle.dom_tree.proofs.RefersLemmas.{inside-alone}
-use Rattle.dom_traverse.proofs.Spots.{told}
+use Rattle.dom_traverse.proofs.SpotLemmas.{told}
 use Rattle.dom_edit.proofs.checks.is_inside.Goals as goal
 
 no-spot : (o : Option (Spot Content)) → is_some o ≡ false → node_at o ≡ None

@@ -1,6 +1,6 @@
 use Rattle.std.proofs.Common.{MatchOption, rules, ◌≡◌, ℕ, Option, None, sym, ◌∙◌, subst}
 use Rattle.dom_model.specs.Definitions.{Grove, parent_of, previous_of, next_of, Content}
-use Rattle.dom_traverse.proofs.Spots.{told_at}
+use Rattle.dom_traverse.proofs.SpotLemmas.{told_at}
 use Rattle.dom_edit.specs.{declared.removing.Seat.Seat, Seats.IsSeat}
 use Rattle.dom_edit.proofs.removing.seat_of.Goals as goal
 
