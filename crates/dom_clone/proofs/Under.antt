@@ -12,7 +12,7 @@ use Rattle.dom_tree.specs.PutConditions.{MayStand}
 use Rattle.dom_observe.specs.Watchers.{Watches}
 use Rattle.dom_edit.specs.{declared.world.World.World, Whole.IsWhole, Whole.Keeps, Whole.Follows, Whole.unwatched}
 use Rattle.dom_edit.proofs.{Covering.covered-kept, Following.follows-then, Following.keeps-unwatched, Following.sound-unwatched, Following.whole-sound}
-use Rattle.dom_observe.proofs.HeldNames.{held-kept}
+use Rattle.dom_observe.proofs.NamesHeldLemmas.{held-kept}
 use Rattle.dom_clone.specs.Growing.{made_under}
 
 -- what holds of each node holds of what an entry tells

@@ -8,7 +8,7 @@ use Rattle.dom_model.proofs.Worlds.{Measured.entry-beside, SameShape.IsAlike, Sa
 use Rattle.dom_model.proofs.RangesAndContents.RangesSpliced.{there-alike}
 use Rattle.dom_model.proofs.Soundness.{SoundSplitting.sound-split, SoundTextContent.entry-made, SoundWorlds.statics-kept}
 use Rattle.dom_ranges.specs.Tables.{RangeTable}
-use Rattle.dom_observe.proofs.HeldNames.{held-kept}
+use Rattle.dom_observe.proofs.NamesHeldLemmas.{held-kept}
 use Rattle.dom_edit.specs.{declared.world.World.World, Keeping.present, Keeping.KeepsLabels, Keeping.KeepsNodes, Keeping.attributes_at, Whole.AreCovered, Whole.IsWhole, Whole.Keeps, Whole.Follows, Whole.unwatched}
 use Rattle.dom_edit.proofs.{Covering.covered-kept, Following.follows-then, Following.keeps-unwatched, Following.whole-sound, WatchersKept.present-moved, WatchersKept.watchers-ranged}
 use Rattle.dom_data.specs.{Tails.HasRoom, Tails.tail_in, Turns.put_behind, Turns.ends_behind, Turns.tail_moved, Turns.split_in_turn}

@@ -10,7 +10,7 @@ use Rattle.dom_model.proofs.Worlds.SameShape.{bare_node, with_node-alike, kind-a
 use Rattle.dom_model.proofs.RangesAndContents.RangesSpliced.{there-alike}
 use Rattle.dom_edit.specs.{declared.world.World.World, Whole.AreCovered, Whole.IsWhole, Whole.Keeps, Whole.Follows, Whole.unwatched}
 use Rattle.dom_observe.specs.Watchers.{Watches}
-use Rattle.dom_observe.proofs.HeldNames.{held-kept}
+use Rattle.dom_observe.proofs.NamesHeldLemmas.{held-kept}
 use Rattle.std.proofs.lemmas.Bool.Decides.{nat_tests}
 use Rattle.dom_edit.proofs.{Following.whole-sound, Covering.covered-kept}
 use Rattle.dom_data.proofs.ChangedBodies.{EachNode-with_node}

@@ -3,7 +3,7 @@ use Rattle.std.specs.{Borrow.Bor, Option.option_copied}
 use Rattle.std.proofs.Common.{◌≡◌, ℕ, List, Option, Some, None, refl, ap, sym, ◌∙◌, subst}
 use Rattle.dom_model.specs.declared.RecordType.{RecordType}
 use Rattle.dom_model.specs.Definitions.{Forest, ancestors, Content, queued, noted, standing_on}
-use Rattle.dom_observe.specs.{Names.text_of, Watchers.Watches}
+use Rattle.dom_observe.specs.{Names.given_name, Watchers.Watches}
 use Rattle.dom_edit.specs.{declared.world.World.World, Whole.Follows}
 use Rattle.dom_data.specs.Changes.{change_of, Tells}
 
@@ -22,6 +22,6 @@ follows-told old new what target name value e tells = record {
 }
 
 -- a text that is lent, as a clause on an optional reference says it
-pub lent-text : (o : Option (Bor (List ℕ))) → option_copied o ≡ text_of o
+pub lent-text : (o : Option (Bor (List ℕ))) → option_copied o ≡ given_name o
 lent-text None = refl
 lent-text (Some text) = refl

@@ -4,7 +4,7 @@ ghost use Rattle.std.specs.Prelude.{◌≡◌, true, string_bytes, IfOk, OnOk, O
 ghost use Rattle.dom_model.specs.declared.Kind.TheVariants.{Element};
 ghost use Rattle.dom_model.specs.Forests.Nodes.{is_of_kind};
 ghost use Rattle.dom_model.specs.DataAndCopies.Data.{set_attribute, remove_attribute, toggle_attribute, has_attribute, is_toggled_on};
-ghost use Rattle.dom_observe.specs.Held.{SameObservers};
+ghost use Rattle.dom_observe.specs.ObservedNodes.{SameObservers};
 ghost use Rattle.dom_edit.specs.Whole.{IsWhole, Follows, unwatched};
 
 use crate::bodies::{has_in, remove_in, set_in};

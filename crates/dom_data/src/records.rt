@@ -5,7 +5,7 @@ ghost use Rattle.dom_model.specs.declared.RecordType.TheVariants.{Attributes};
 ghost use Rattle.dom_model.specs.Forests.Attributes.{attribute_value};
 ghost use Rattle.dom_model.specs.Forests.Forest.{HasNode, entry_in};
 ghost use Rattle.dom_model.specs.DataAndCopies.Data.{content_in, data_record, attribute_record};
-ghost use Rattle.dom_observe.specs.Held.{SameObservers};
+ghost use Rattle.dom_observe.specs.ObservedNodes.{SameObservers};
 ghost use Rattle.dom_edit.specs.Whole.{IsWhole, Follows};
 ghost use Rattle.dom_data.specs.Changes.{change_of};
 

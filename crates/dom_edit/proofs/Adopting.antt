@@ -8,8 +8,8 @@ use Rattle.dom_model.proofs.Worlds.{SameShape.with_tree-alike, SameShape.occurs-
 use Rattle.dom_model.proofs.RangesAndContents.RangesSpliced.{there-alike}
 use Rattle.dom_model.proofs.Soundness.{SoundWorlds.there_after_cut, SoundWorlds.statics-kept, SoundEditing.sound-adopted}
 use Rattle.dom_model.proofs.MutationAlgorithms.Loosened.{forest-remove}
-use Rattle.dom_observe.specs.Held.{NamesHeld}
-use Rattle.dom_observe.proofs.HeldNames.{held-kept}
+use Rattle.dom_observe.specs.ObservedNodes.{NamesHeld}
+use Rattle.dom_observe.proofs.NamesHeldLemmas.{held-kept}
 use Rattle.dom_edit.specs.{declared.world.World.World, Whole.IsWhole, Whole.Keeps, Whole.Follows, Whole.unwatched}
 use Rattle.dom_edit.proofs.{Following.keeps-unwatched, Following.whole-sound, Covering.covered-kept, Leaving.sound-unwatched}
 

@@ -4,7 +4,7 @@ use Rattle.std.proofs.lemmas.{List.get_or_past, List.Elements.All-nil}
 use Rattle.dom_model.specs.Definitions.{Label, empty, IsForest, Content, Range, Iterator, Walker, document_label, no_content, first_world, made_node, Record, taken_up_to, records_past, IsRange, IsIterator, IsWalker}
 use Rattle.dom_model.specs.Worlds.World as model
 use Rattle.dom_model.proofs.Soundness.SoundAnswers.{sound-first}
-use Rattle.dom_observe.specs.{Held.NamesHeld, Watchers.Watchers, Watchers.queue_at, Watchers.Watches}
+use Rattle.dom_observe.specs.{ObservedNodes.NamesHeld, Watchers.Watchers, Watchers.queue_at, Watchers.Watches}
 use Rattle.dom_edit.specs.{declared.world.World.World, Whole.AreHeld, Whole.AreCovered, Whole.IsWhole, Whole.Keeps, Whole.Shows, Whole.Follows}
 
 abbrev bare : model.World

@@ -3,7 +3,7 @@ use Rattle.std.proofs.Common.{◌≡◌, Option, IfSome, All, refl, sym, subst}
 use Rattle.std.proofs.lemmas.List.Elements.{All-nil}
 use Rattle.dom_model.specs.Definitions.{IsForest, HasOneDocument, Range, IsRegistration, IsSound, HasOwners}
 use Rattle.dom_model.specs.Worlds.World as model
-use Rattle.dom_observe.specs.Held.{NamesHeld}
+use Rattle.dom_observe.specs.ObservedNodes.{NamesHeld}
 use Rattle.dom_edit.specs.{declared.world.World.World, Whole.AreHeld, Whole.AreCovered, Whole.IsWhole, Whole.Keeps, Whole.Shows, Whole.Follows, Whole.unwatched}
 
 -- no step

@@ -7,8 +7,8 @@ use Rattle.dom_model.proofs.Forests.{Climbing.hits-not_among, Entries.HasNode-oc
 use Rattle.dom_model.proofs.Soundness.SoundWorlds.{there_after_cut, statics-kept, sound-remove}
 use Rattle.dom_model.proofs.MutationAlgorithms.OwnersKept.{owned-cut}
 use Rattle.dom_ranges.specs.Tables.{RangeTable, IsCovered}
-use Rattle.dom_observe.specs.{Held.NamesHeld, Watchers.Watches}
-use Rattle.dom_observe.proofs.{HeldNames.held-kept, Watching.watches-unstood, Queued.standing_on-none}
+use Rattle.dom_observe.specs.{ObservedNodes.NamesHeld, Watchers.Watches}
+use Rattle.dom_observe.proofs.{NamesHeldLemmas.held-kept, WatchesLemmas.watches-unstood, QueueRecordLemmas.standing_on-none}
 use Rattle.dom_edit.specs.{declared.world.World.World, Removed.removal_noted, Whole.AreCovered, Whole.IsWhole, Whole.Keeps, Whole.Follows, Whole.unwatched}
 use Rattle.dom_edit.proofs.{Following.keeps-unwatched, Following.whole-sound, Covering.covered-kept, Queuing.tree_mutation}
 pub use Rattle.dom_edit.proofs.Following.{sound-unwatched}

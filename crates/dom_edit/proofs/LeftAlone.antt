@@ -4,7 +4,7 @@ use Rattle.std.proofs.lemmas.{Bool.cases_lt, List.Elements.All-head, List.Elemen
 use Rattle.dom_model.specs.Definitions.{hits, among, parent_in, EachNode, Forest, HasNode, empty, occurs, one_at, beside, tree_at, cut, put, adopted, in_document, entry_in, parent_of, children_of, ancestors, inclusive_descendants, Content, Iterator, IsIterator, document_in, stepped_off, pre_removed, pre_removed_all}
 use Rattle.dom_model.proofs.PlainLists.Numbers.{same_or, same, apart}
 use Rattle.dom_model.proofs.Forests.{Below.occurs-tree, Climbing.hits-first, Climbing.hits-not_among, Climbing.hits-ancestors, EachNode.EachNode-cut, EachNode.EachNode-put, EachNode.EachNode-with_tree, Entries.occurs-HasNode, ForestsBeside.IsFrom, ForestsBeside.IsBelow, ForestsBeside.absent-from, ForestsBeside.entry-older, ForestsBeside.tree_at-older, ForestsBeside.tree_at-younger, ForestsBeside.cut-younger, ForestsBeside.put-younger, ForestsBeside.adopted-younger, Indices.child-parent, Indices.parent-there, Paths.parent-path, Totals.IsOnce, Totals.total-beside, TreeOrder.Flattened.hits-numbers}
-use Rattle.dom_observe.specs.{Held.named, Held.NamesNoneOf, Watchers.Watchers}
+use Rattle.dom_observe.specs.{ObservedNodes.referred_nodes, ObservedNodes.NamesNoneOf, Watchers.Watchers}
 use Rattle.dom_edit.specs.{declared.world.World.World, Inserting.placed_in, Inserting.all_placed, Leaving.LeavesAll, Leaving.AreNewer, Whole.IsWhole}
 use Rattle.dom_edit.proofs.PlacedWorlds.{with_placed}
 
@@ -42,13 +42,13 @@ module _ (a : World) (h : IsWhole a) where
 
   module _ (v : World) (l : LeavesAll a v) where
     -- a newer node is not named
-    named-none : (n : ℕ) → low ≤ n → among n (named v.observers) ≡ false
-    named-none n k = go (among n (named v.observers)) refl
+    named-none : (n : ℕ) → low ≤ n → among n (referred_nodes v.observers) ≡ false
+    named-none n k = go (among n (referred_nodes v.observers)) refl
       where
-        go : (b : Bool) → among n (named v.observers) ≡ b → among n (named v.observers) ≡ false
+        go : (b : Bool) → among n (referred_nodes v.observers) ≡ b → among n (referred_nodes v.observers) ≡ false
         go false e = e
         go true e =
-            let held : HasNode f n = h.observers.nodes n (ap (λ (o : Watchers). among n (named o)) (sym l.observers) ∙ e) in
+            let held : HasNode f n = h.observers.nodes n (ap (λ (o : Watchers). among n (referred_nodes o)) (sym l.observers) ∙ e) in
             let i = occurs-HasNode f n held in
             let z = below n k in
             absurd (omega arith)

@@ -9,8 +9,8 @@ use Rattle.dom_model.proofs.Forests.{Entries.entry_under-absent, Entries.occurs-
 use Rattle.dom_model.proofs.Worlds.{Measured.entry-joined, Measured.entry-beside, Measured.kind-beside, Owners.HasOwners-new_root, Owners.kind-there}
 use Rattle.dom_model.proofs.Soundness.{SoundMaking.sound-made_node, SoundWorlds.statics-kept}
 use Rattle.dom_ranges.specs.Tables.{covered_to}
-use Rattle.dom_observe.specs.{Held.NamesHeld, Watchers.Watches}
-use Rattle.dom_observe.proofs.HeldNames.{held-kept}
+use Rattle.dom_observe.specs.{ObservedNodes.NamesHeld, Watchers.Watches}
+use Rattle.dom_observe.proofs.NamesHeldLemmas.{held-kept}
 use Rattle.dom_edit.specs.{declared.world.World.World, Whole.AreCovered, Whole.IsWhole, Whole.Follows, Whole.unwatched}
 use Rattle.dom_edit.proofs.{Following.keeps-unwatched, Following.whole-sound, Covering.covered-more, Covering.covered-made, Leaving.sound-unwatched}
 

@@ -4,8 +4,8 @@ use Rattle.std.proofs.Common.{◌≡◌, ℕ, ◌<◌, ◌≤◌, List, [], ◌�
 use Rattle.std.proofs.lemmas.Bool.{cases_lt}
 use Rattle.dom_model.specs.Definitions.{hits, Forest, HasNode, Content, if_any}
 use Rattle.dom_model.proofs.Forests.{Climbing.among-hits, Climbing.hits-append, Entries.HasNode-occurs}
-use Rattle.dom_observe.specs.Held.{NamesOnly}
-use Rattle.dom_observe.proofs.HeldNames.{held-after}
+use Rattle.dom_observe.specs.ObservedNodes.{NamesOnly}
+use Rattle.dom_observe.proofs.NamesHeldLemmas.{held-after}
 use Rattle.dom_edit.specs.{declared.world.World.World, Whole.IsWhole, Inserting.AreThere}
 use Rattle.dom_edit.proofs.{Following.whole-observed, NodesKept.none-there, NodesKept.one-there}
 

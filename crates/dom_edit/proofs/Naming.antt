@@ -11,8 +11,8 @@ use Rattle.dom_model.proofs.Forests.{Changes.seen, Changes.nothing, Changes.just
 use Rattle.dom_model.proofs.Worlds.Owners.{EachNode-each, HasOwners-discarded, kind-there}
 use Rattle.dom_model.proofs.Soundness.{SoundForests.entry_there, SoundForests.child-fits, SoundDiscarding.sound-without}
 use Rattle.dom_ranges.specs.Tables.{uncovered, live_nodes}
-use Rattle.dom_observe.specs.Held.{named}
-use Rattle.dom_observe.proofs.HeldNames.{held-freed}
+use Rattle.dom_observe.specs.ObservedNodes.{referred_nodes}
+use Rattle.dom_observe.proofs.NamesHeldLemmas.{held-freed}
 use Rattle.dom_edit.specs.{declared.world.World.World, Whole.AreHeld, Whole.AreCovered, Whole.IsWhole, Whole.Keeps, Whole.unwatched, Used.named_in, Used.is_used}
 use Rattle.dom_edit.proofs.{Following.keeps-unwatched, Following.whole-sound, Following.sound-unwatched, Covering.covered-left}
 
@@ -30,8 +30,8 @@ parted p a b c d e =
 
 -- a number of a tree is among those that the parts of the code's world name
 pub named-own : (v : World) (p : ℕ → Bool)
-    → ((((list_any p (flat_map (nodes_unless_released nodes_of_range) v.ranges.ranges) || list_any p (flat_map (nodes_unless_released nodes_of_range) v.statics)) || list_any p (flat_map (nodes_unless_released nodes_of_iterator) v.iterators)) || list_any p (flat_map (nodes_unless_released nodes_of_walker) v.walkers)) || list_any p (named v.observers)) ≡ list_any p (named_in v)
-named-own v p = parted p (flat_map (nodes_unless_released nodes_of_range) v.ranges.ranges) (flat_map (nodes_unless_released nodes_of_range) v.statics) (flat_map (nodes_unless_released nodes_of_iterator) v.iterators) (flat_map (nodes_unless_released nodes_of_walker) v.walkers) (named v.observers)
+    → ((((list_any p (flat_map (nodes_unless_released nodes_of_range) v.ranges.ranges) || list_any p (flat_map (nodes_unless_released nodes_of_range) v.statics)) || list_any p (flat_map (nodes_unless_released nodes_of_iterator) v.iterators)) || list_any p (flat_map (nodes_unless_released nodes_of_walker) v.walkers)) || list_any p (referred_nodes v.observers)) ≡ list_any p (named_in v)
+named-own v p = parted p (flat_map (nodes_unless_released nodes_of_range) v.ranges.ranges) (flat_map (nodes_unless_released nodes_of_range) v.statics) (flat_map (nodes_unless_released nodes_of_iterator) v.iterators) (flat_map (nodes_unless_released nodes_of_walker) v.walkers) (referred_nodes v.observers)
 
 -- and among those that a world names which it keeps
 pub named-parts : (v : World) (w : model.World) (top : ℕ) → Keeps v w → (p : ℕ → Bool) → p ≡ (λ m. among m (inclusive_descendants v.tree.forest top))
@@ -115,15 +115,15 @@ root-not_held v h n root other =
     rw (root, none) refl
 
 -- a tree that no node outside holds, and nothing else names, is not in use
-pub not_in_use : (v : World) (w : model.World) (n : ℕ) (named : Bool) → Keeps v w → named ≡ list_any (λ m. among m (inclusive_descendants w.forest n)) (named_nodes w) → named ≡ false
+pub not_in_use : (v : World) (w : model.World) (n : ℕ) (referred_nodes : Bool) → Keeps v w → referred_nodes ≡ list_any (λ m. among m (inclusive_descendants w.forest n)) (named_nodes w) → referred_nodes ≡ false
     → is_held_outside v.tree.forest n ≡ false → is_in_use w n ≡ false
-not_in_use v w n named k e none free =
+not_in_use v w n referred_nodes k e none free =
     let held : is_held_outside w.forest n ≡ false = ap (λ f. is_held_outside f n) k.forest ∙ free in
     let others : list_any (λ m. among m (inclusive_descendants w.forest n)) (named_nodes w) ≡ false = sym e ∙ none in
     rw (held, others) refl
 
-pub not_used : (v : World) (n : ℕ) (named : Bool) → named ≡ list_any (λ m. among m (inclusive_descendants v.tree.forest n)) (named_in v) → named ≡ false → is_held_outside v.tree.forest n ≡ false → is_used v n ≡ false
-not_used v n named e none free =
+pub not_used : (v : World) (n : ℕ) (referred_nodes : Bool) → referred_nodes ≡ list_any (λ m. among m (inclusive_descendants v.tree.forest n)) (named_in v) → referred_nodes ≡ false → is_held_outside v.tree.forest n ≡ false → is_used v n ≡ false
+not_used v n referred_nodes e none free =
     let others : list_any (λ m. among m (inclusive_descendants v.tree.forest n)) (named_in v) ≡ false = sym e ∙ none in
     rw (free, others) refl
 
@@ -133,7 +133,7 @@ not_used v n named e none free =
 record NamesNothing (v : World) (n : ℕ) : Type 0 where
   outside : is_held_outside v.tree.forest n ≡ false
   ranges : list_any (λ m. among m (inclusive_descendants v.tree.forest n)) (flat_map (nodes_unless_released nodes_of_range) v.ranges.ranges) ≡ false
-  observers : list_any (λ m. among m (inclusive_descendants v.tree.forest n)) (named v.observers) ≡ false
+  observers : list_any (λ m. among m (inclusive_descendants v.tree.forest n)) (referred_nodes v.observers) ≡ false
   unwatched_too : is_in_use (unwatched v) n ≡ false
 
 names-nothing : (v : World) (n : ℕ) → is_used v n ≡ false → NamesNothing v n
@@ -144,7 +144,7 @@ names-nothing v n free =
     let b = list_any p (flat_map (nodes_unless_released nodes_of_range) v.statics) in
     let c = list_any p (flat_map (nodes_unless_released nodes_of_iterator) v.iterators) in
     let d = list_any p (flat_map (nodes_unless_released nodes_of_walker) v.walkers) in
-    let all = or_parts (((a || b) || c) || d) (list_any p (named v.observers)) (named-own v p ∙ apart.1) in
+    let all = or_parts (((a || b) || c) || d) (list_any p (referred_nodes v.observers)) (named-own v p ∙ apart.1) in
     let first = or_parts a b (or_parts (a || b) c (or_parts ((a || b) || c) d all.0).0).0 in
     let others : list_any p (named_nodes (unwatched v)) ≡ false = sym (named-parts v (unwatched v) n (keeps-unwatched v) p refl) ∙ ap (λ t. t || false) all.0 in
     record { outside = apart.0; ranges = first.0; observers = all.1; unwatched_too = rw (apart.0, others) refl }

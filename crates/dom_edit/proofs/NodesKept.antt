@@ -10,7 +10,7 @@ use Rattle.dom_model.proofs.Soundness.SoundWorlds.{child_there}
 use Rattle.dom_tree.proofs.SiblingLemmas.{forward-step}
 use Rattle.dom_edit.specs.{declared.world.World.World, Whole.IsWhole, Inserting.reference_in, Inserting.AreThere, Keeping.present, Keeping.KeepsWatchers, Keeping.KeepsLabels, Keeping.KeepsNodes}
 use Rattle.dom_ranges.specs.Tables.{RangeTable}
-use Rattle.dom_observe.specs.Held.{SameObservers}
+use Rattle.dom_observe.specs.ObservedNodes.{SameObservers}
 use Rattle.dom_edit.proofs.{WatchersKept.watchers-then, WatchersKept.watchers-none, WatchersKept.watchers-observed, WatchersKept.watchers-ranged, LabelsKept.told_of, LabelsKept.kept-told, LabelsKept.told-cut, LabelsKept.told-adopted, InsertedNodes.entering, InsertedNodes.entering_if_any, InsertedNodes.entering-there}
 
 -- Steps that keep all nodes.

@@ -5,7 +5,7 @@ use Rattle.dom_model.specs.Worlds.World as model
 use Rattle.dom_model.proofs.Forests.Entries.{HasNode-occurs, occurs-HasNode}
 use Rattle.dom_model.proofs.Soundness.{SoundPlacing.sound-put_all, SoundWorlds.statics-kept}
 use Rattle.dom_observe.specs.Watchers.{Watches}
-use Rattle.dom_observe.proofs.HeldNames.{held-kept}
+use Rattle.dom_observe.proofs.NamesHeldLemmas.{held-kept}
 use Rattle.dom_edit.specs.{declared.world.World.World, Whole.IsWhole, Whole.Keeps, Whole.Follows, Whole.unwatched, Inserting.all_placed, Inserting.with_room, Inserting.IsOpen}
 use Rattle.dom_edit.proofs.{Following.keeps-unwatched, Following.whole-sound, Covering.covered-kept, PlacedRoots.placed-world, PlacedRoots.placed-all}
 pub use Rattle.dom_edit.proofs.Following.{sound-unwatched}

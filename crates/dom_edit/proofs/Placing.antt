@@ -7,7 +7,7 @@ use Rattle.dom_model.proofs.Forests.Indices.{child-listed, child-once, parent-th
 use Rattle.dom_model.proofs.PlainLists.Numbers.{same_or, same, apart}
 use Rattle.dom_edit.specs.{declared.surroundings.Place.Place, declared.surroundings.Place.TheVariants.Before, declared.surroundings.Place.TheVariants.Instead, declared.surroundings.Around.Around, Places.child_of, Places.keeps_child, Places.staying, Places.IsUnder, Places.refuses, Places.ahead_of, Places.from_optional, Places.IsAround}
 use Rattle.dom_edit.proofs.AmongChildren.{from_first-after}
-use Rattle.dom_observe.proofs.{Sifting.or_false, NamedRecords.or-grouped}
+use Rattle.dom_observe.proofs.{FilterSetLemmas.or_false, NamesNodesLemmas.or-grouped}
 
 or_assoc : (a b c : Bool) → ((a || b) || c) ≡ (a || (b || c))
 or_assoc true b c = refl

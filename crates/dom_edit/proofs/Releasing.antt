@@ -3,7 +3,7 @@ use Rattle.std.proofs.Common.{slice_set, ℕ, ◌==◌, not, List, [], Option, N
 use Rattle.std.proofs.lemmas.List.Elements.{All-set, All-filter}
 use Rattle.dom_model.specs.Worlds.World as model
 use Rattle.dom_model.specs.Definitions.{Range, Iterator, Walker, Registration, Observing, released_observer, released_static, released_iterator, released_walker, with_observing, IsIterator, IsWalker, IsRegistration}
-use Rattle.dom_observe.specs.{Held.NamesOnly, Watchers.Watchers, Watchers.Watches}
+use Rattle.dom_observe.specs.{ObservedNodes.NamesOnly, Watchers.Watchers, Watchers.Watches}
 use Rattle.dom_edit.specs.{declared.world.World.World, Whole.AreHeld, Whole.IsWhole, Whole.Shows, Whole.Follows}
 use Rattle.dom_edit.proofs.{Following.shows-next, NodesKept.none-there, Named.whole-named}
 

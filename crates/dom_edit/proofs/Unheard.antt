@@ -4,7 +4,7 @@ use Rattle.dom_model.specs.Definitions.{ancestors, Mutation, Observing, Registra
 use Rattle.dom_model.specs.declared.RecordType.TheVariants.{ChildList}
 use Rattle.dom_model.specs.Worlds.World as model
 use Rattle.dom_observe.specs.Watchers.{Watches}
-use Rattle.dom_observe.proofs.{Queued.standing_on-none, Watching.watches-unheard}
+use Rattle.dom_observe.proofs.{QueueRecordLemmas.standing_on-none, WatchesLemmas.watches-unheard}
 use Rattle.dom_edit.specs.{declared.world.World.World, Whole.Follows}
 
 -- what is observed stays as it was

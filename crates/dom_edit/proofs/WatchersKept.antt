@@ -1,8 +1,8 @@
 -- What watches a tree is there still as nodes come and go, and as ends of live ranges move.
 use Rattle.std.proofs.Common.{IsSome, map, is_some, option_map, slice_index_or, slice_set, ◌≡◌, ℕ, zero, suc, Bool, true, false, not, ◌&&◌, ◌==◌, if◌then◌else◌, List, [], ◌∷◌, Option, Some, None, refl, ap, sym, ◌∙◌}
 use Rattle.dom_model.specs.Definitions.{among, head_of, before, Forest, inclusive_descendants, Content, Point, Range, Iterator, map_ranges, moved_range, following_outside, moved_on, moved_back, stepped_off, pre_removed_among, pre_removed_all}
-use Rattle.dom_observe.specs.{Held.SameObservers, Watchers.Watchers}
-use Rattle.dom_observe.proofs.Holding.{same-queues}
+use Rattle.dom_observe.specs.{ObservedNodes.SameObservers, Watchers.Watchers}
+use Rattle.dom_observe.proofs.NamedNodesLemmas.{same-queues}
 use Rattle.dom_edit.specs.{declared.world.World.World, Inserting.with_room, Keeping.present, Keeping.scope_of, Keeping.scopes, Keeping.KeepsWatchers}
 
 -- Observers.

@@ -5,7 +5,7 @@ use Rattle.dom_model.specs.Forests.Forest.{Forest, HasNode, entry_in}
 use Rattle.dom_model.specs.Worlds.World.{Content, Iterator, Filter}
 use Rattle.dom_model.specs.DataAndCopies.Data.{content_in}
 use Rattle.dom_model.specs.TokenText.Originals.{label_of}
-use Rattle.dom_observe.specs.Held.{SameObservers}
+use Rattle.dom_observe.specs.ObservedNodes.{SameObservers}
 use Rattle.dom_edit.specs.declared.world.World.{World}
 
 -- under which numbers there is something: what was released is none

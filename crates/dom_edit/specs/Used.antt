@@ -6,7 +6,7 @@ use Rattle.dom_model.specs.Forests.Forest.{Forest, inclusive_descendants}
 use Rattle.dom_model.specs.Worlds.World.{Content}
 use Rattle.dom_model.specs.MutationAlgorithms.Discarding.{nodes_of_range, nodes_of_iterator, nodes_of_walker, nodes_unless_released, is_held_outside}
 use Rattle.dom_ranges.specs.Tables.{uncovered, RangeTable}
-use Rattle.dom_observe.specs.Held.{named}
+use Rattle.dom_observe.specs.ObservedNodes.{referred_nodes}
 use Rattle.dom_edit.specs.declared.world.World.{World}
 
 -- every node that another part than the tree names
@@ -16,7 +16,7 @@ named_in v =
     ++ (flat_map (nodes_unless_released nodes_of_range) v.statics
     ++ (flat_map (nodes_unless_released nodes_of_iterator) v.iterators
     ++ (flat_map (nodes_unless_released nodes_of_walker) v.walkers
-    ++ named v.observers)))
+    ++ referred_nodes v.observers)))
 
 -- a node outside has the node as a child, or one of its inclusive descendants as its node document, or a part names one of these
 abbrev pub is_used : World → ℕ → Bool

@@ -9,7 +9,7 @@ use Rattle.dom_model.specs.Soundness.Sound.{IsRange, IsIterator, IsWalker, IsSou
 pub use Rattle.dom_model.specs.Soundness.Sound.{AreHeld}
 use Rattle.dom_model.specs.Soundness.Owners.{HasOwners}
 use Rattle.dom_ranges.specs.Tables.{covers, covered_to}
-use Rattle.dom_observe.specs.Held.{NamesHeld}
+use Rattle.dom_observe.specs.ObservedNodes.{NamesHeld}
 use Rattle.dom_observe.specs.Watchers.{Watches}
 use Rattle.dom_edit.specs.declared.world.World.{World}
 

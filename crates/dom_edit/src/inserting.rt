@@ -6,7 +6,7 @@ ghost use Rattle.dom_model.specs.Forests.Forest.{HasNode, parent_of, children_of
 ghost use Rattle.dom_model.specs.Forests.Nodes.{is_of_kind};
 ghost use Rattle.dom_model.specs.MutationAlgorithms.Editing.{tree_record, remove_all, previous_to, insert_all, insert};
 ghost use Rattle.dom_model.specs.MutationAlgorithms.Insertable.{IsInsertable};
-ghost use Rattle.dom_observe.specs.Held.{NamesNoneOf};
+ghost use Rattle.dom_observe.specs.ObservedNodes.{NamesNoneOf};
 ghost use Rattle.dom_edit.specs.Inserting.{AreThere, IsUnreferred, ComesIn, brought, IsOpen};
 ghost use Rattle.dom_edit.specs.Whole.{IsWhole, Follows};
 ghost use Rattle.dom_edit.specs.Keeping.{KeepsNodes};

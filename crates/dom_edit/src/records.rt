@@ -4,7 +4,7 @@ ghost use Rattle.std.specs.Prelude.{◌≡◌, OnOk};
 ghost use Rattle.std.specs.Option.{ForSome};
 ghost use Rattle.dom_model.specs.Forests.Forest.{HasNode, ancestors};
 ghost use Rattle.dom_model.specs.MutationAlgorithms.Editing.{tree_record};
-ghost use Rattle.dom_observe.specs.Held.{NamesNoneOf, SameObservers};
+ghost use Rattle.dom_observe.specs.ObservedNodes.{NamesNoneOf, SameObservers};
 ghost use Rattle.dom_edit.specs.Inserting.{AreThere};
 ghost use Rattle.dom_edit.specs.Whole.{IsWhole, Follows};
 

@@ -12,7 +12,7 @@ ghost use Rattle.dom_edit.specs.Keeping.{KeepsNodes};
 ghost use Rattle.dom_edit.specs.Leaving.{LeavesOlder};
 ghost use Rattle.dom_edit.specs.Removed.{removal_noted};
 ghost use Rattle.dom_edit.specs.Seats.{IsSeat};
-ghost use Rattle.dom_observe.specs.Held.{NamesNoneOf, SameObservers};
+ghost use Rattle.dom_observe.specs.ObservedNodes.{NamesNoneOf, SameObservers};
 ghost use Rattle.dom_tree.specs.Spots.{node_at};
 
 use crate::content::Content;

@@ -3,7 +3,7 @@
 ghost use Rattle.std.specs.Prelude.{◌≡◌, ◌<◌, ◌++◌, ◌∷◌, [], length, count_by, Some, None, IsSome, is_some, IfOk, OnOk, OnErr, slice_set};
 ghost use Rattle.std.specs.Borrow.{sem};
 ghost use Rattle.dom_observe.specs.Roster.{observer_at, keys_by, queues_by};
-ghost use Rattle.dom_observe.specs.Lending.{lends_observer};
+ghost use Rattle.dom_observe.specs.Borrows.{lends_observer};
 
 use crate::observer_id::ObserverId;
 use crate::queue::Queue;

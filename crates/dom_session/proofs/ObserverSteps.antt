@@ -5,8 +5,8 @@ use Rattle.dom_model.specs.Definitions.{HasNode, entry_in, Observing, Options, C
 use Rattle.dom_model.specs.Worlds.World as model
 use Rattle.dom_model.specs.Commands.Reply as model_reply
 use Rattle.dom_model.proofs.PlainLists.Numbers.{same_or, same, apart}
-use Rattle.dom_observe.specs.{Held.NamesHeld, Held.NamesOnly, Watchers.Watchers, Watchers.Watches, Watchers.queue_in}
-use Rattle.dom_observe.proofs.HeldNames.{held-after}
+use Rattle.dom_observe.specs.{ObservedNodes.NamesHeld, ObservedNodes.NamesOnly, Watchers.Watchers, Watchers.Watches, Watchers.queue_in}
+use Rattle.dom_observe.proofs.NamesHeldLemmas.{held-after}
 use Rattle.dom_edit.specs.{declared.world.World.World, Whole.IsWhole, Whole.Shows}
 use Rattle.dom_session.specs.{declared.reply.Reply.Reply, Views.reply_view, Stands.IsStep}
 use Rattle.dom_session.proofs.{Stepping.step-follows, Stepping.step-stays, TreeEdits.not-none}

@@ -8,7 +8,7 @@ use Rattle.serde_json.proofs.{Views.view-Array, Texts.print-outline}
 use Rattle.dom_model.specs.Definitions.{list_of, arguments_from, with_argument, command_in_array, command_among, is_row_of, named_in, rule_from, if_member, list_in, options_in, GivenOptions, Row, Shape, Arguments, json_of}
 use Rattle.dom_model.specs.Commands.Printed as printed
 use Rattle.dom_wire.specs.{Rows.is_of_length, Prints.tokens_of, Prints.tokens_of_all, Prints.Adds}
-use Rattle.dom_observe.proofs.Gathered.{take-next}
+use Rattle.dom_observe.proofs.GatherLemmas.{take-next}
 
 -- ---- reading
 

@@ -5,7 +5,7 @@ use Rattle.dom_model.specs.Definitions.{attribute_value, Forest, entry_in, ances
 use Rattle.dom_model.specs.declared.RecordType.TheVariants.{Attributes}
 use Rattle.dom_edit.specs.declared.world.World.{World}
 use Rattle.dom_edit.proofs.{NodesKept.one-there, Named.whole-named}
-use Rattle.dom_observe.specs.{Held.nodes_of_mutation, Held.NamesOnly, Watchers.Watches}
+use Rattle.dom_observe.specs.{ObservedNodes.nodes_of_mutation, ObservedNodes.NamesOnly, Watchers.Watches}
 use Rattle.dom_data.proofs.Told.{follows-told}
 use Rattle.dom_data.proofs.records.tell_attribute.Goals as goal
 
