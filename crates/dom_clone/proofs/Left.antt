@@ -3,8 +3,8 @@ use Rattle.std.proofs.Common.{◌≡◌, ℕ, ◌+◌, ◌≤◌, List, refl, ap
 use Rattle.dom_model.specs.Definitions.{Label, EachNode, Node, Forest, empty, node, beside, Content, made_node}
 use Rattle.dom_model.proofs.Forests.{EachNode.EachNode-beside, Totals.beside-empty, Undone.beside-assoc}
 use Rattle.dom_model.proofs.Worlds.Owners.{EachNode-each}
-use Rattle.dom_edit.specs.{declared.world.World.World, Whole.CoversAhead, Whole.Follows, Whole.unwatched, Leaving.LeavesAll}
-use Rattle.dom_edit.proofs.Following.{keeps-unwatched}
+use Rattle.dom_edit.specs.{declared.world.World.World, Whole.CoversAhead, Whole.Follows, Whole.unwatched, OlderNodes.LeavesAll}
+use Rattle.dom_edit.proofs.FollowsLemmas.{keeps-unwatched}
 use Rattle.dom_clone.specs.declared.waiting.Waiting.{Waiting}
 use Rattle.dom_clone.proofs.{Under.follows-same, Partial.IsCopying, Partial.with_trees}
 

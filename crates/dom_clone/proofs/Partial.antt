@@ -9,7 +9,7 @@ use Rattle.dom_model.proofs.Forests.{Changes.seen, Changes.nothing, Changes.just
 use Rattle.dom_model.proofs.Worlds.Measured.{entry-beside}
 use Rattle.dom_tree.specs.PutConditions.{MayStand}
 use Rattle.dom_edit.specs.{declared.world.World.World, Whole.IsWhole, Whole.Follows, Whole.unwatched}
-use Rattle.dom_edit.proofs.Following.{follows-then, keeps-unwatched}
+use Rattle.dom_edit.proofs.FollowsLemmas.{follows-then, keeps-unwatched}
 use Rattle.dom_clone.specs.{declared.waiting.Waiting.Waiting, Growing.made_under, Waits.waiting_for}
 use Rattle.dom_clone.proofs.{Under.each-entry, Under.follows-same, Grown.Part, Grown.sizes, Grown.completed, Grown.part_if, Grown.sizes-push, Grown.sizes-wait, Grown.completed-wait, Grown.completed-step, Grown.put-grown}
 

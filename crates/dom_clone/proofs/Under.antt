@@ -11,7 +11,7 @@ use Rattle.dom_model.proofs.Soundness.{SoundPlacing.sound-put_one, SoundWorlds.s
 use Rattle.dom_tree.specs.PutConditions.{MayStand}
 use Rattle.dom_observe.specs.Watchers.{Watches}
 use Rattle.dom_edit.specs.{declared.world.World.World, Whole.IsWhole, Whole.Keeps, Whole.Follows, Whole.unwatched}
-use Rattle.dom_edit.proofs.{Covering.covered-kept, Following.follows-then, Following.keeps-unwatched, Following.sound-unwatched, Following.whole-sound}
+use Rattle.dom_edit.proofs.{CoversHeldLemmas.covered-kept, FollowsLemmas.follows-then, FollowsLemmas.keeps-unwatched, FollowsLemmas.sound-unwatched, FollowsLemmas.whole-sound}
 use Rattle.dom_observe.proofs.NamesHeldLemmas.{held-kept}
 use Rattle.dom_clone.specs.Growing.{made_under}
 

@@ -13,7 +13,7 @@ ghost use Rattle.dom_tree.specs.PutConditions.{MayStand};
 ghost use Rattle.dom_edit.specs.Whole.{IsWhole, Follows};
 ghost use Rattle.dom_edit.specs.Refusals.{check_adopt, IsRefused};
 ghost use Rattle.dom_clone.specs.Growing.{made_under};
-ghost use Rattle.dom_edit.specs.Leaving.{LeavesAll};
+ghost use Rattle.dom_edit.specs.OlderNodes.{LeavesAll};
 
 use crate::waiting::{Waiting, wait_for};
 use dom_edit::{Content, Refusal, World, document_in};

@@ -12,8 +12,8 @@ use Rattle.dom_model.proofs.RangesAndContents.{Drawing.IsDrawing, Drawing.Extend
 use Rattle.dom_model.proofs.RangesAndContents.Drawing as model_drawing
 use Rattle.dom_model.proofs.RangesAndContents.DrawnPieces as model_pieces
 use Rattle.dom_model.proofs.RangesAndContents.DrawnPaths as paths
-use Rattle.dom_edit.specs.{declared.world.World.World, Whole.IsWhole, Whole.Keeps, Whole.Follows, Whole.unwatched, Inserting.IsUnreferred}
-use Rattle.dom_edit.proofs.{Following.keeps-unwatched, PlacedWorlds.sound-unwatched}
+use Rattle.dom_edit.specs.{declared.world.World.World, Whole.IsWhole, Whole.Keeps, Whole.Follows, Whole.unwatched, Insertion.IsUnreferred}
+use Rattle.dom_edit.proofs.{FollowsLemmas.keeps-unwatched, PlacedWorldLemmas.sound-unwatched}
 use Rattle.dom_content.specs.{declared.partial.Partial.Partial, Paths.StillHeld, Paths.EndsStayOut, Paths.Stays, Paths.KindsStay, Paths.DataStays, Paths.opened, Paths.inner_of, Paths.entered, Paths.closed_one, Coming.IsRising, Coming.IsHolder, Coming.may_go_in, Coming.IsOld, Coming.AreOld, Coming.IsUnfinished, Coming.AreUnfinished, Coming.IsPathTo}
 use Rattle.dom_content.proofs.{KindsComing.goes-drawn, KindsComing.drawn-goes, KindsComing.fragment-holds, KindsComing.fragment-document, KindsComing.fragment-doctype, StaysOf.stays-clone, StaysOf.stays-copied, StaysOf.new-unreferred}
 use Rattle.dom_model.proofs.Soundness.SoundForests.{passes-also}

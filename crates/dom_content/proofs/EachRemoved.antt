@@ -4,7 +4,7 @@ use Rattle.std.proofs.lemmas.List.{drop_more}
 use Rattle.dom_model.specs.Definitions.{hits, HasNode, remove, remove_each}
 use Rattle.dom_model.proofs.Forests.Entries.{occurs-HasNode, HasNode-occurs}
 use Rattle.dom_edit.specs.{declared.world.World.World, Whole.IsWhole, Whole.Follows}
-use Rattle.dom_edit.proofs.{Following.follows-none, Following.follows-then, InsertedNodes.item-hit, InsertedNodes.there-removed}
+use Rattle.dom_edit.proofs.{FollowsLemmas.follows-none, FollowsLemmas.follows-then, InsertLemmas.item-hit, InsertLemmas.there-removed}
 
 -- all nodes are there, and once those still to come are out, all are
 pub record IsLeaving (initial here : World) (nodes : List ℕ) (i : ℕ) : Type 0 where

@@ -3,8 +3,8 @@ use Rattle.std.proofs.Common.{IsSome, ◌≡◌, ℕ, ap, sym, ◌∙◌, subst}
 use Rattle.dom_model.specs.Definitions.{Forest, HasNode, entry_in, Content, content_in, label_in}
 use Rattle.dom_model.proofs.Forests.Entries.{HasNode-occurs, occurs-HasNode}
 use Rattle.dom_model.proofs.Worlds.Measured.{entry-beside}
-use Rattle.dom_edit.specs.{declared.world.World.World, Keeping.present, Keeping.KeepsLabels, Leaving.LeavesAll}
-use Rattle.dom_edit.proofs.{NodesKept.nodes-none, WatchersKept.watchers-ranged}
+use Rattle.dom_edit.specs.{declared.world.World.World, KeptNodes.present, KeptNodes.KeepsLabels, OlderNodes.LeavesAll}
+use Rattle.dom_edit.proofs.{KeepsNodesLemmas.nodes-none, KeepsWatchersLemmas.watchers-ranged}
 use Rattle.dom_content.specs.Paths.{StillHeld}
 
 -- nothing has changed

@@ -6,8 +6,8 @@ use Rattle.dom_model.specs.Worlds.World as model
 use Rattle.dom_model.proofs.PlainLists.Numbers.{same_or, same, apart}
 use Rattle.dom_model.proofs.DataAndCopies.CopiesPlaced.{parent-copies}
 use Rattle.dom_model.proofs.Forests.{Changes.seen, Changes.nothing, Changes.just, Climbing.hits-append, Climbing.hits-first, Indices.parent-there}
-use Rattle.dom_edit.specs.{declared.world.World.World, Leaving.AreNewer, Whole.IsWhole, Whole.Follows, Whole.unwatched}
-use Rattle.dom_edit.proofs.Following.{keeps-unwatched}
+use Rattle.dom_edit.specs.{declared.world.World.World, OlderNodes.AreNewer, Whole.IsWhole, Whole.Follows, Whole.unwatched}
+use Rattle.dom_edit.proofs.FollowsLemmas.{keeps-unwatched}
 use Rattle.dom_content.specs.{declared.partial.Partial.Partial, Paths.numbers_of_copies}
 
 -- contents that are copied are not moved

@@ -5,7 +5,7 @@ use Rattle.dom_model.specs.Definitions.{up_to, is_character_data, Forest, childr
 use Rattle.dom_model.specs.Worlds.World as model
 use Rattle.dom_model.proofs.Counting.CountsOfContents.{units_into-grown}
 use Rattle.dom_edit.specs.{declared.world.World.World, Whole.Keeps, Whole.Follows}
-use Rattle.dom_edit.proofs.{Following.follows-then, InsertedNodes.follows-as}
+use Rattle.dom_edit.proofs.{FollowsLemmas.follows-then, InsertLemmas.follows-as}
 use Rattle.dom_content.specs.{declared.partial.Partial.Partial, Paths.HasRoom, Paths.opened, Paths.inner_of, Paths.entered, Paths.closed_one}
 use Rattle.dom_content.proofs.{PathSteps.append-grows, PathSteps.opened-grows, PathSteps.copy-grows, PathSteps.if-grows, PathSteps.room-within, PieceSteps.room-after, PieceSteps.room-as, PieceSteps.children-grow}
 

@@ -7,7 +7,7 @@ use Rattle.dom_model.specs.Worlds.World as model
 use Rattle.dom_model.proofs.Forests.Entries.{HasNode-occurs}
 use Rattle.dom_model.proofs.Counting.{CountsKept.append-kept, CountsOfContents.units_into-grown}
 use Rattle.dom_edit.specs.{declared.world.World.World, Whole.IsWhole, Whole.Keeps, Whole.Follows}
-use Rattle.dom_edit.proofs.{Following.follows-none, Following.follows-then, InsertedNodes.follows-as}
+use Rattle.dom_edit.proofs.{FollowsLemmas.follows-none, FollowsLemmas.follows-then, InsertLemmas.follows-as}
 use Rattle.dom_content.specs.{declared.partial.Partial.Partial, Paths.HasRoom, Paths.StillHeld, Paths.Stays, Paths.KindsStay, Paths.opened, Paths.inner_of, Paths.closed_one, Paths.closed, Coming.IsRising, Coming.IsHolder, Coming.IsOld, Coming.AreOld, Coming.MayDraw, Coming.IsUnfinished, Coming.AreUnfinished, Coming.MayClose, Coming.IsPathTo}
 use Rattle.dom_content.proofs.{StaysOf.stays-none, StaysOf.stays-then, Comings.Goes, Comings.first-old, Comings.rest-old, Comings.one-old, Comings.old-there, Comings.old-goes, Comings.all_unfinished-go, Comings.inner-holder, Comings.goes-closed, PathLists.listed, PathLists.none-left, PieceSteps.room-before, PieceSteps.room-after, PieceSteps.room-as, PieceSteps.children-grow}
 use Rattle.dom_model.proofs.Worlds.Owners.{kind-there}

@@ -8,7 +8,7 @@ use Rattle.dom_model.proofs.MutationAlgorithms.Extending.{Extends, extends-besid
 use Rattle.dom_model.proofs.Soundness.SoundAppending.{clone_copy, clone_with_copy, fragment_made}
 use Rattle.dom_model.proofs.Counting.{CountsKept.append-kept, CountsOfData.replace_data-kept}
 use Rattle.dom_edit.specs.{declared.world.World.World, Whole.IsWhole, Whole.Keeps, Whole.Follows, Whole.unwatched}
-use Rattle.dom_edit.proofs.{Following.follows-none, Following.follows-then, InsertedNodes.follows-as, InsertedNodes.forest-after, PlacedWorlds.sound-unwatched}
+use Rattle.dom_edit.proofs.{FollowsLemmas.follows-none, FollowsLemmas.follows-then, InsertLemmas.follows-as, InsertLemmas.forest-after, PlacedWorldLemmas.sound-unwatched}
 use Rattle.dom_content.specs.{Paths.HasRoom, Paths.StillHeld, Paths.Stays, Paths.KindsStay, Paths.DataStays, Coming.AreOld, Coming.MayDraw}
 use Rattle.dom_content.proofs.{StaysOf.stays-none, StaysOf.stays-then, Comings.first-old, Comings.rest-old, Comings.one-old, Comings.old-there, Comings.holder-goes, Comings.old-goes, Comings.goes-child}
 

@@ -10,8 +10,8 @@ use Rattle.dom_model.proofs.Worlds.SameShape.{IsAlike, parent-alike, with_node-a
 use Rattle.dom_model.proofs.MutationAlgorithms.Extending.{Extends, IsPut, extends-beside, put_by_insert}
 use Rattle.dom_model.proofs.RangesAndContents.RangesElsewhere.{ends_of}
 use Rattle.dom_ranges.specs.Tables.{live_nodes}
-use Rattle.dom_edit.specs.{declared.world.World.World, Whole.IsWhole, Whole.Follows, Whole.unwatched, Inserting.IsUnreferred}
-use Rattle.dom_edit.proofs.{Following.keeps-unwatched, PlacedWorlds.sound-unwatched}
+use Rattle.dom_edit.specs.{declared.world.World.World, Whole.IsWhole, Whole.Follows, Whole.unwatched, Insertion.IsUnreferred}
+use Rattle.dom_edit.proofs.{FollowsLemmas.keeps-unwatched, PlacedWorldLemmas.sound-unwatched}
 use Rattle.dom_content.specs.{Paths.EndsStayOut, Paths.Stays, Coming.IsRising}
 use Rattle.dom_content.proofs.EndsOut.{rooted-there, live-there, AreUnder, under-append, under-beside, under-replaced}
 

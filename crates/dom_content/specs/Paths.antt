@@ -13,7 +13,7 @@ use Rattle.dom_model.specs.DataAndCopies.Clones.{clone_node}
 use Rattle.dom_model.specs.RangesAndContents.Contents.{new_fragment, children_into}
 use Rattle.dom_ranges.specs.Tables.{live_nodes}
 use Rattle.dom_edit.specs.declared.world.World.{World}
-use Rattle.dom_edit.specs.Leaving.{LeavesAll, AreNewer}
+use Rattle.dom_edit.specs.OlderNodes.{LeavesAll, AreNewer}
 use Rattle.dom_edit.specs.Whole.{IsWhole, Keeps, unwatched}
 use Rattle.dom_content.specs.declared.partial.Partial.{Partial}
 

@@ -3,7 +3,7 @@
 ghost use Rattle.std.specs.Prelude.{◌≡◌, take, drop, IfOk};
 ghost use Rattle.dom_model.specs.Forests.Forest.{HasNode, children_of};
 ghost use Rattle.dom_model.specs.PlainLists.Lists.{past, up_to};
-ghost use Rattle.dom_edit.specs.Places.{IsAmong, from_optional, ahead_of};
+ghost use Rattle.dom_edit.specs.InsertionPoints.{IsAmong, from_optional, children_ahead};
 
 use dom_edit::Content;
 use dom_tree::{NodeId, Tree};
@@ -19,7 +19,7 @@ pub(crate) fn children_between(
 ) -> Result<Vec<NodeId>, AllocError>
     requires held { HasNode tree.now.forest parent }
     requires child { IsAmong from (children_of tree.now.forest parent) }
-    ensures { IfOk result (λ list. list.items ≡ ahead_of until
+    ensures { IfOk result (λ list. list.items ≡ children_ahead until
         (from_optional from (children_of tree.now.forest parent))) }
 {
     tree.sound();

@@ -8,7 +8,7 @@ ghost use Rattle.dom_model.specs.Soundness.Sound.{IsRange};
 ghost use Rattle.dom_model.specs.RangesAndContents.Ranges.{is_before};
 ghost use Rattle.dom_model.specs.RangesAndContents.Contents.{contained_tops};
 ghost use Rattle.dom_model.specs.RangesAndContents.BesidePaths.{tail_nodes, head_nodes};
-ghost use Rattle.dom_edit.specs.Inserting.{AreThere};
+ghost use Rattle.dom_edit.specs.Insertion.{AreThere};
 ghost use Rattle.dom_edit.specs.Whole.{IsWhole, unwatched};
 ghost use Rattle.dom_content.specs.Drawing.{ArePartsOf};
 

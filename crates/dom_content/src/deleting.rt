@@ -13,7 +13,7 @@ ghost use Rattle.dom_model.specs.RangesAndContents.Contents.{is_in_one_data, cut
 ghost use Rattle.dom_ranges.specs.Tables.{range_in};
 ghost use Rattle.dom_model.specs.TokenText.Edits.{delete_contents_edits};
 ghost use Rattle.dom_edit.specs.Whole.{IsWhole, Follows, unwatched};
-ghost use Rattle.dom_edit.specs.Keeping.{KeepsLabels};
+ghost use Rattle.dom_edit.specs.KeptNodes.{KeepsLabels};
 ghost use Rattle.dom_edit.specs.Markers.{StandByEdits};
 ghost use Rattle.dom_content.specs.Drawing.{place_behind};
 ghost use Rattle.dom_content.specs.Left.{IsLeftOf};

@@ -7,8 +7,8 @@ ghost use Rattle.dom_model.specs.Forests.Kinds.{is_character_data};
 ghost use Rattle.dom_model.specs.Forests.Nodes.{kind_passes};
 ghost use Rattle.dom_model.specs.RangesAndContents.Contents.{children_into, copy_into};
 ghost use Rattle.dom_edit.specs.Whole.{IsWhole, Keeps, Follows};
-ghost use Rattle.dom_edit.specs.Keeping.{KeepsLabels};
-ghost use Rattle.dom_edit.specs.Leaving.{LeavesOlder};
+ghost use Rattle.dom_edit.specs.KeptNodes.{KeepsLabels};
+ghost use Rattle.dom_edit.specs.OlderNodes.{LeavesOlder};
 ghost use Rattle.dom_content.specs.Paths.{HasRoom, Stays, DataStays, opened, inner_of, closed_one, closed, IsBegunFor, numbers_of_copies};
 ghost use Rattle.dom_content.specs.Coming.{MayDraw, MayClose};
 

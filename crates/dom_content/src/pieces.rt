@@ -11,10 +11,10 @@ ghost use Rattle.dom_model.specs.MutationAlgorithms.Insertable.{IsInsertable};
 ghost use Rattle.dom_model.specs.DataAndCopies.Data.{content_in, data_of};
 ghost use Rattle.dom_model.specs.DataAndCopies.Clones.{clone_node};
 ghost use Rattle.dom_model.specs.RangesAndContents.Contents.{new_fragment, clone_with, cut_if, units_into, child_into, children_into};
-ghost use Rattle.dom_edit.specs.Inserting.{IsUnreferred};
+ghost use Rattle.dom_edit.specs.Insertion.{IsUnreferred};
 ghost use Rattle.dom_edit.specs.Whole.{IsWhole, Follows, unwatched};
-ghost use Rattle.dom_edit.specs.Keeping.{KeepsLabels};
-ghost use Rattle.dom_edit.specs.Leaving.{LeavesAll, LeavesOlder, IsFragmentOrRoot};
+ghost use Rattle.dom_edit.specs.KeptNodes.{KeepsLabels};
+ghost use Rattle.dom_edit.specs.OlderNodes.{LeavesAll, LeavesOlder, IsFragmentOrRoot};
 ghost use Rattle.dom_content.specs.Paths.{HasRoom, Stays, KindsStay, DataStays};
 ghost use Rattle.dom_content.specs.Coming.{MayDraw};
 

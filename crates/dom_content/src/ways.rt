@@ -10,8 +10,8 @@ ghost use Rattle.dom_model.specs.Forests.Nodes.{kind_passes};
 ghost use Rattle.dom_model.specs.DataAndCopies.Data.{content_in};
 ghost use Rattle.dom_model.specs.RangesAndContents.Contents.{tail_into, head_into};
 ghost use Rattle.dom_edit.specs.Whole.{IsWhole, Keeps, Follows};
-ghost use Rattle.dom_edit.specs.Keeping.{KeepsLabels};
-ghost use Rattle.dom_edit.specs.Leaving.{LeavesOlder};
+ghost use Rattle.dom_edit.specs.KeptNodes.{KeepsLabels};
+ghost use Rattle.dom_edit.specs.OlderNodes.{LeavesOlder};
 ghost use Rattle.dom_content.specs.Paths.{HasRoom, Stays, DataStays, opened, inner_of, entered, IsBegunFor};
 ghost use Rattle.dom_content.specs.Coming.{MayDraw, IsPathTo};
 

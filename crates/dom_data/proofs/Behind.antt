@@ -7,7 +7,7 @@ use Rattle.dom_model.proofs.Forests.Entries.{occurs-HasNode, HasNode-occurs}
 use Rattle.dom_model.proofs.Worlds.Measured.{entry-beside, parent-beside}
 use Rattle.dom_ranges.specs.Tables.{IsCovered}
 use Rattle.dom_edit.specs.{declared.world.World.World, Whole.IsWhole, Whole.Keeps, Whole.Follows, Whole.unwatched}
-use Rattle.dom_edit.proofs.Following.{keeps-unwatched}
+use Rattle.dom_edit.proofs.FollowsLemmas.{keeps-unwatched}
 use Rattle.dom_data.specs.Tails.{IsTail, HasRoom}
 use Rattle.dom_data.proofs.{StaysWhole.sound-unwatched, Parting.text-held, MovedTail.drop-all}
 use Rattle.dom_data.proofs.SoundParting as parting

@@ -5,8 +5,8 @@ use Rattle.dom_model.proofs.Forests.Changes.{change_at}
 use Rattle.dom_model.proofs.MutationAlgorithms.Extending.{tag_in, tag_at}
 use Rattle.dom_model.proofs.Worlds.Measured.{entry-with_node}
 use Rattle.dom_ranges.specs.Tables.{RangeTable}
-use Rattle.dom_edit.specs.{declared.world.World.World, Keeping.present, Keeping.KeepsWatchers, Keeping.KeepsNodes}
-use Rattle.dom_edit.proofs.{LabelsKept.labelled-there, NodesKept.labels-then, NodesKept.nodes-then, NodesKept.nodes-same, NodesKept.nodes-none, NodesKept.nodes-ranged, WatchersKept.present-moved}
+use Rattle.dom_edit.specs.{declared.world.World.World, KeptNodes.present, KeptNodes.KeepsWatchers, KeptNodes.KeepsNodes}
+use Rattle.dom_edit.proofs.{KeepsLabelsLemmas.labelled-there, KeepsNodesLemmas.labels-then, KeepsNodesLemmas.nodes-then, KeepsNodesLemmas.nodes-same, KeepsNodesLemmas.nodes-none, KeepsNodesLemmas.nodes-ranged, KeepsWatchersLemmas.present-moved}
 use Rattle.dom_data.specs.Keeping.{KeepsNumbers}
 
 pub numbers-kept : (a b : World) → KeepsNodes a b → KeepsNumbers a b

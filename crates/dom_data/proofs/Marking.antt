@@ -6,7 +6,7 @@ use Rattle.dom_model.specs.Worlds.World as model
 use Rattle.dom_model.proofs.Forests.Entries.{occurs-HasNode}
 use Rattle.dom_model.proofs.TokenText.{EditsMade.EditsOfSteps.leave-replace_data, EditsMade.EditsOfSplitting.leave-split, EditsMade.EditsOfNormalizing.leave-normalize, EditsMade.EditsOfTextContent.leave-set_text_content}
 use Rattle.dom_edit.specs.{declared.world.World.World, Whole.IsWhole, Whole.Follows, Whole.unwatched, Markers.StandByEdits}
-use Rattle.dom_edit.proofs.{Following.sound-unwatched, Marking.stand-by_edits}
+use Rattle.dom_edit.proofs.{FollowsLemmas.sound-unwatched, StandByEditsLemmas.stand-by_edits}
 use Rattle.dom_data.proofs.Parting.{text-held}
 
 module _ (old new : World) (before : IsWhole old) (after : IsWhole new) where

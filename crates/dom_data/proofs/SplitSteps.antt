@@ -9,8 +9,8 @@ use Rattle.dom_model.proofs.RangesAndContents.RangesSpliced.{there-alike}
 use Rattle.dom_model.proofs.Soundness.{SoundSplitting.sound-split, SoundTextContent.entry-made, SoundWorlds.statics-kept}
 use Rattle.dom_ranges.specs.Tables.{RangeTable}
 use Rattle.dom_observe.proofs.NamesHeldLemmas.{held-kept}
-use Rattle.dom_edit.specs.{declared.world.World.World, Keeping.present, Keeping.KeepsLabels, Keeping.KeepsNodes, Keeping.attributes_at, Whole.AreCovered, Whole.IsWhole, Whole.Keeps, Whole.Follows, Whole.unwatched}
-use Rattle.dom_edit.proofs.{Covering.covered-kept, Following.follows-then, Following.keeps-unwatched, Following.whole-sound, WatchersKept.present-moved, WatchersKept.watchers-ranged}
+use Rattle.dom_edit.specs.{declared.world.World.World, KeptNodes.present, KeptNodes.KeepsLabels, KeptNodes.KeepsNodes, KeptNodes.attributes_at, Whole.CoversHeld, Whole.IsWhole, Whole.Keeps, Whole.Follows, Whole.unwatched}
+use Rattle.dom_edit.proofs.{CoversHeldLemmas.covered-kept, FollowsLemmas.follows-then, FollowsLemmas.keeps-unwatched, FollowsLemmas.whole-sound, KeepsWatchersLemmas.present-moved, KeepsWatchersLemmas.watchers-ranged}
 use Rattle.dom_data.specs.{Tails.HasRoom, Tails.tail_in, Turns.put_behind, Turns.ends_behind, Turns.tail_moved, Turns.split_in_turn}
 use Rattle.dom_data.proofs.{LabelsKept.numbers-replaced, LabelsKept.numbers-then, NewTexts.made_is, NewTexts.new-there, NewTexts.old-there, Parting.text-held, SplitInTurn.split-in-turn, StaysWhole.documents-with_node, StaysWhole.owners-with_node, StaysWhole.sound-unwatched, StaysWhole.follows-alike}
 
@@ -67,9 +67,9 @@ module _ (told : World) (n offset id : ℕ) where
         go None k = tt
         go (Some q) k = let i = index-alike alike n in let e = ap length (children-alike alike q) in omega arith
 
-    pub covered-moved : AreCovered told.tree told.ranges.covered → AreCovered tree told.ranges.covered
+    pub covered-moved : CoversHeld told.tree told.ranges.covered → CoversHeld tree told.ranges.covered
     covered-moved h =
-        subst (λ g. AreCovered g told.ranges.covered) (sym tree_is)
+        subst (λ g. CoversHeld g told.ranges.covered) (sym tree_is)
         (covered-kept told.tree (record told.tree { forest = moved }) told.ranges.covered (λ m. let e = occurs-alike alike m in omega arith) refl h)
 
   -- ends that moved, and then those behind the offset that nothing came for

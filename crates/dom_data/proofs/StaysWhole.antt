@@ -8,13 +8,13 @@ use Rattle.dom_ranges.specs.Tables.{RangeTable}
 use Rattle.dom_model.proofs.PlainLists.Numbers.{same_or, same, apart}
 use Rattle.dom_model.proofs.Worlds.SameShape.{bare_node, with_node-alike, kind-alike, occurs-alike}
 use Rattle.dom_model.proofs.RangesAndContents.RangesSpliced.{there-alike}
-use Rattle.dom_edit.specs.{declared.world.World.World, Whole.AreCovered, Whole.IsWhole, Whole.Keeps, Whole.Follows, Whole.unwatched}
+use Rattle.dom_edit.specs.{declared.world.World.World, Whole.CoversHeld, Whole.IsWhole, Whole.Keeps, Whole.Follows, Whole.unwatched}
 use Rattle.dom_observe.specs.Watchers.{Watches}
 use Rattle.dom_observe.proofs.NamesHeldLemmas.{held-kept}
 use Rattle.std.proofs.lemmas.Bool.Decides.{nat_tests}
-use Rattle.dom_edit.proofs.{Following.whole-sound, Covering.covered-kept}
+use Rattle.dom_edit.proofs.{FollowsLemmas.whole-sound, CoversHeldLemmas.covered-kept}
 use Rattle.dom_data.proofs.ChangedBodies.{EachNode-with_node}
-pub use Rattle.dom_edit.proofs.Following.{sound-unwatched}
+pub use Rattle.dom_edit.proofs.FollowsLemmas.{sound-unwatched}
 
 module _ (n : ℕ) (change : Node Content → Node Content) (keeps : (x : Node Content) → bare_node (change x) ≡ bare_node x) (stays : (x : Node Content) → (change x).document ≡ x.document) where
   pub documents-with_node : (f : Forest Content) → HasOneDocument f → HasOneDocument (with_node n change f)
@@ -41,7 +41,7 @@ module _ (n : ℕ) (change : Node Content → Node Content) (keeps : (x : Node C
       whole-sound new w k s
       (subst HasOneDocument (sym forest) (documents-with_node old.tree.forest h.documents))
       (subst HasOwners (sym forest) (owners-with_node old.tree.forest h.owners))
-      (subst (AreCovered new.tree) (sym covered)
+      (subst (CoversHeld new.tree) (sym covered)
       (covered-kept old.tree new.tree old.ranges.covered (λ m. let z : occurs m new.tree.forest ≡ occurs m old.tree.forest = ap (occurs m) forest ∙ occurs-alike a m in omega arith) made h.covered))
       (rw (forest, statics) (statics-kept old.tree.forest (with_node n change old.tree.forest) (there-alike a) old.statics h.statics))
       (rw (forest, observers) (held-kept old.tree.forest (with_node n change old.tree.forest) old.observers (there-alike a) h.observers))

@@ -8,8 +8,8 @@ use Rattle.dom_model.proofs.PlainLists.Numbers.{same_or, same, apart}
 use Rattle.dom_model.proofs.Forests.Entries.{HasNode-occurs}
 use Rattle.dom_model.proofs.Soundness.{SoundData.length-data, SoundSplitting.text_has_data, SoundJoining.is_child, SoundJoining.is_there, SoundJoining.first_in, SoundJoining.text_first, SoundJoining.merged_is, SoundJoining.moved, SoundJoining.sound-merged_ranges, SoundJoining.left, SoundJoining.joinable_left}
 use Rattle.dom_ranges.specs.Tables.{RangeTable, OffsetsFit, live_nodes}
-use Rattle.dom_edit.specs.{declared.world.World.World, Whole.AreCovered, Whole.IsWhole, Whole.Keeps, Whole.Follows, Whole.unwatched}
-use Rattle.dom_edit.proofs.Following.{follows-none, follows-then, keeps-unwatched, whole-sound}
+use Rattle.dom_edit.specs.{declared.world.World.World, Whole.CoversHeld, Whole.IsWhole, Whole.Keeps, Whole.Follows, Whole.unwatched}
+use Rattle.dom_edit.proofs.FollowsLemmas.{follows-none, follows-then, keeps-unwatched, whole-sound}
 use Rattle.dom_data.specs.Joining.{data_among, taken_in, each_taken_in}
 use Rattle.dom_data.proofs.{StaysWhole.sound-unwatched, StaysWhole.follows-alike, MovedOffsets.offsets-fit, UnfeltIndex.unfelt}
 
@@ -76,7 +76,7 @@ module _ (old : World) (h : IsWhole old) (t p base first : ℕ) (ts : List ℕ) 
         whole-sound merged (moved (unwatched old) t p base first ts j)
         (record { forest = refl; made = refl; ranges = sym ranges_are; static_ranges = refl; iterators = refl; walkers = refl })
         (sound-merged_ranges (unwatched old) t p base first ts j)
-        h.documents h.owners (subst (AreCovered old.tree) (sym (ap (λ (r : RangeTable). r.covered) e)) h.covered) h.statics h.observers
+        h.documents h.owners (subst (CoversHeld old.tree) (sym (ap (λ (r : RangeTable). r.covered) e)) h.covered) h.statics h.observers
 
     follows-merged : Follows old merged (λ w. merged_ends first t base (parent_of w.forest first) w)
     follows-merged =

@@ -8,7 +8,7 @@ ghost use Rattle.dom_model.specs.Forests.Kinds.{may_be_parent, is_character_data
 ghost use Rattle.dom_model.specs.Forests.Nodes.{kind_passes, is_of_kind};
 ghost use Rattle.dom_model.specs.TokenText.Edits.{set_text_content_edits};
 ghost use Rattle.dom_edit.specs.Whole.{IsWhole, Follows, unwatched};
-ghost use Rattle.dom_edit.specs.Keeping.{KeepsLabels};
+ghost use Rattle.dom_edit.specs.KeptNodes.{KeepsLabels};
 ghost use Rattle.dom_edit.specs.Markers.{StandByEdits};
 ghost use Rattle.dom_data.specs.Gathering.{text_at, gathered};
 ghost use Rattle.dom_data.specs.TextContent.{makes_text};

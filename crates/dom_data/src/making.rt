@@ -5,7 +5,7 @@ ghost use Rattle.dom_model.specs.declared.Kind.TheVariants.{Document, Text};
 ghost use Rattle.dom_model.specs.Worlds.Making.{made_node, named, with_text};
 ghost use Rattle.dom_model.specs.Forests.Nodes.{is_of_kind};
 ghost use Rattle.dom_edit.specs.Whole.{IsWhole, Follows};
-ghost use Rattle.dom_edit.specs.Keeping.{KeepsLabels};
+ghost use Rattle.dom_edit.specs.KeptNodes.{KeepsLabels};
 
 use dom_edit::{Content, World};
 use dom_kinds::{Kind, Label};

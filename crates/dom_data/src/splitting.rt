@@ -7,8 +7,8 @@ ghost use Rattle.dom_model.specs.Forests.Forest.{HasNode, parent_of, children_of
 ghost use Rattle.dom_model.specs.Forests.Nodes.{is_of_kind};
 ghost use Rattle.dom_model.specs.DataAndCopies.Data.{data_of, check_offset, split};
 ghost use Rattle.dom_model.specs.TokenText.Edits.{split_edits};
-ghost use Rattle.dom_edit.specs.Whole.{AreCovered, IsWhole, Follows, unwatched};
-ghost use Rattle.dom_edit.specs.Keeping.{KeepsLabels, KeepsNodes};
+ghost use Rattle.dom_edit.specs.Whole.{CoversHeld, IsWhole, Follows, unwatched};
+ghost use Rattle.dom_edit.specs.KeptNodes.{KeepsLabels, KeepsNodes};
 ghost use Rattle.dom_edit.specs.Markers.{StandByEdits};
 ghost use Rattle.dom_edit.specs.Refusals.{IsRefused};
 ghost use Rattle.dom_data.specs.Tails.{IsTail, HasRoom};
@@ -59,7 +59,7 @@ fn split_ends(world: &mut World, node: NodeId, offset: usize, new: NodeId)
     requires held { HasNode world.old.tree.forest node }
     requires new_held { HasNode world.old.tree.forest new }
     requires room { HasRoom world.old.tree.forest node }
-    requires covered { AreCovered world.old.tree world.old.ranges.covered }
+    requires covered { CoversHeld world.old.tree world.old.ranges.covered }
     ensures { world.new ≡ record world.old {
       ranges = record world.old.ranges {
         ranges = ends_behind node offset new

@@ -8,7 +8,7 @@ use Rattle.dom_model.specs.Commands.Reply as model_reply
 use Rattle.dom_model.proofs.Counting.{CountsOfExtraction.IsGrownTo, CountsOfExtraction.extract-grown, CountsOfExtraction.surround-to, CopiesOfContents.clone_contents-grown, NumbersKept.in_order}
 use Rattle.dom_ranges.specs.Tables.{range_in}
 use Rattle.dom_edit.specs.{declared.world.World.World, Whole.IsWhole, Whole.Keeps, Whole.Shows, Whole.unwatched}
-use Rattle.dom_edit.proofs.Leaving.{sound-unwatched}
+use Rattle.dom_edit.proofs.RemoveLemmas.{sound-unwatched}
 use Rattle.dom_wrap.specs.Outcomes.{left_by}
 use Rattle.dom_session.proofs.{Stepping.guarded-none, TreeEdits.not-none, NodeData.guarded-past_node, NodeData.guarded-past_room, Unfelt.Beside, Unfelt.beside, Unfelt.insert_node-refusal, Unfelt.surround-refusal}
 

@@ -4,8 +4,8 @@ use Rattle.dom_model.specs.Worlds.World as model
 use Rattle.dom_model.specs.Definitions.{Range, IsSound, Command, is_refusal, Bounds, Step, answer}
 use Rattle.dom_model.proofs.Soundness.SoundAnswers.{sound-answer}
 use Rattle.dom_ranges.specs.Tables.{RangeTable}
-use Rattle.dom_edit.specs.{declared.world.World.World, Whole.AreCovered, Whole.IsWhole, Whole.Shows, Whole.IsShown, Whole.Follows, Whole.AreHeld}
-use Rattle.dom_edit.proofs.Following.{whole-sound}
+use Rattle.dom_edit.specs.{declared.world.World.World, Whole.CoversHeld, Whole.IsWhole, Whole.Shows, Whole.IsShown, Whole.Follows, Whole.AreHeld}
+use Rattle.dom_edit.proofs.FollowsLemmas.{whole-sound}
 use Rattle.dom_session.specs.{declared.reply.Reply.Reply, Views.reply_view, Stands.IsStep}
 use Rattle.dom_session.proofs.Stepping.{step-follows, step-stays}
 
@@ -35,7 +35,7 @@ module _ (b : Bounds) (c : Command) (reply : Reply) where
       let u = s.stands_for in
       let next : model.World = record u { ranges = rs } in
       let f = follows-ranges v t rs is in
-      let covers : AreCovered v.tree t.covered = subst (AreCovered v.tree) (sym (ap (λ (x : RangeTable). x.covered) is)) s.shows.whole.covered in
+      let covers : CoversHeld v.tree t.covered = subst (CoversHeld v.tree) (sym (ap (λ (x : RangeTable). x.covered) is)) s.shows.whole.covered in
       let whole : IsWhole (record v { ranges = t }) =
       whole-sound (record v { ranges = t }) next (f.keeps u s.shows.keeps) (sound-next v s next (e u s.shows)) s.shows.whole.documents s.shows.whole.owners covers s.shows.whole.statics s.shows.whole.observers in
       step-follows b c reply v (record v { ranges = t }) (λ w. record w { ranges = rs }) done e f whole

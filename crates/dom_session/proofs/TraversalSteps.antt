@@ -7,7 +7,7 @@ use Rattle.dom_model.specs.Commands.Reply as model_reply
 use Rattle.dom_model.proofs.Soundness.SoundAnswers.{sound-answer}
 use Rattle.dom_traverse.specs.Items.{iterator_in, walker_in}
 use Rattle.dom_edit.specs.{declared.world.World.World, Whole.IsWhole, Whole.Keeps, Whole.Shows, Whole.IsShown}
-use Rattle.dom_edit.proofs.Following.{whole-sound}
+use Rattle.dom_edit.proofs.FollowsLemmas.{whole-sound}
 use Rattle.dom_session.specs.{declared.reply.Reply.Reply, Views.reply_view, Stands.IsStep, Limiting.numbered}
 use Rattle.dom_session.proofs.{Stepping.step-follows, TreeEdits.not-none}
 

@@ -1,6 +1,6 @@
 -- What commands keep of a world where memory was wanting.
 use Rattle.std.proofs.Common.{◌≡◌, false, refl}
-use Rattle.dom_edit.specs.{declared.world.World.World, Whole.IsWhole, Keeping.KeepsLabels, Keeping.KeepsNodes, Leaving.LeavesAll}
+use Rattle.dom_edit.specs.{declared.world.World.World, Whole.IsWhole, KeptNodes.KeepsLabels, KeptNodes.KeepsNodes, OlderNodes.LeavesAll}
 use Rattle.dom_data.specs.Keeping.{KeepsNumbers}
 use Rattle.dom_clone.proofs.Left.{left-same}
 use Rattle.dom_content.proofs.LabelsKept.{labels-left}

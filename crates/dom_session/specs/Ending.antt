@@ -2,7 +2,7 @@
 use Rattle.std.specs.Prelude.{◌≡◌, true}
 use Rattle.dom_edit.specs.declared.world.World.{World}
 use Rattle.dom_edit.specs.Whole.{IsWhole}
-use Rattle.dom_edit.specs.Keeping.{KeepsLabels}
+use Rattle.dom_edit.specs.KeptNodes.{KeepsLabels}
 use Rattle.dom_session.specs.Stands.{Held}
 
 -- the world is whole, and what was held is held

@@ -9,10 +9,10 @@ use Rattle.dom_model.proofs.Forests.{Entries.HasNode-occurs, Entries.occurs-HasN
 use Rattle.dom_model.proofs.BoundaryPoints.{PointOrder.nat_cmp-same, PointOrder.nat_cmp-greater, SplitEnds.split_parts}
 use Rattle.dom_model.proofs.RangesAndContents.{StartsAhead.got_place, InsertAllowed.insert-allowed, InsertAllowed.insert-done, RangesSet.same-itself}
 use Rattle.dom_model.proofs.Soundness.{SoundPlacedNode.Gives, SoundInsertedNode.insert-next, SoundData.length-data, SoundSplitting.text_has_data, SoundRangeSteps.live_range, SoundWorlds.IsLive}
-use Rattle.dom_edit.proofs.{Leaving.parent-held, Following.keeps-unwatched, Following.follows-then, Following.whole-sound, PlacedWorlds.sound-unwatched, InsertedNodes.follows-as, InsertedNodes.forest-after}
+use Rattle.dom_edit.proofs.{RemoveLemmas.parent-held, FollowsLemmas.keeps-unwatched, FollowsLemmas.follows-then, FollowsLemmas.whole-sound, PlacedWorldLemmas.sound-unwatched, InsertLemmas.follows-as, InsertLemmas.forest-after}
 use Rattle.dom_model.proofs.MutationAlgorithms.ChecksKept.{refusal-head}
 use Rattle.dom_ranges.specs.Tables.{RangeTable, range_in, result_of_check}
-use Rattle.dom_edit.specs.{declared.world.World.World, Whole.AreCovered, Whole.IsWhole, Whole.Keeps, Whole.Follows, Whole.unwatched}
+use Rattle.dom_edit.specs.{declared.world.World.World, Whole.CoversHeld, Whole.IsWhole, Whole.Keeps, Whole.Follows, Whole.unwatched}
 use Rattle.dom_wrap.specs.Outcomes.{left_by, LeavesSound, IsPlaceable, MayEndAt, MayTake}
 
 -- Where a node comes in.
@@ -151,7 +151,7 @@ module _ (v : World) (h : IsWhole v) (r : ℕ) (p : Point) (range : Range) (e : 
 
     pub whole-ended : IsWhole (record v { ranges = t })
     whole-ended =
-        let covers : AreCovered v.tree t.covered = subst (AreCovered v.tree) (sym (ap (λ (x : RangeTable). x.covered) is)) h.covered in
+        let covers : CoversHeld v.tree t.covered = subst (CoversHeld v.tree) (sym (ap (λ (x : RangeTable). x.covered) is)) h.covered in
         whole-sound (record v { ranges = t }) (end_if_collapsed r p m.stands_for) (follows-ended.keeps m.stands_for m.keeps) m.sound h.documents h.owners covers h.statics h.observers
 
 -- Steps that are not refused.

@@ -6,7 +6,7 @@ use Rattle.dom_model.proofs.Soundness.SoundContents.{sound-extract}
 use Rattle.dom_model.proofs.TokenText.{EditsMade.EditsOfInsertedNodes.sound-inserted, EditsMade.EditsOfInsertedNodes.leave-insert_node, EditsMade.EditsOfSurrounding.KeepSound, EditsMade.EditsOfSurrounding.leave-surround}
 use Rattle.dom_ranges.specs.Tables.{range_in}
 use Rattle.dom_edit.specs.{declared.world.World.World, Whole.IsWhole, Whole.Follows, Whole.unwatched, Markers.StandByEdits}
-use Rattle.dom_edit.proofs.{Following.sound-unwatched, Marking.stand-by_edits}
+use Rattle.dom_edit.proofs.{FollowsLemmas.sound-unwatched, StandByEditsLemmas.stand-by_edits}
 use Rattle.dom_wrap.specs.Outcomes.{left_by}
 use Rattle.dom_wrap.proofs.SurroundingSteps.{ok-left}
 

@@ -11,7 +11,7 @@ use Rattle.dom_model.proofs.Soundness.SoundEditing.{IsChecked, checks}
 use Rattle.dom_model.proofs.RangesAndContents.{Drawing.passes_there, PlacesLeft.length_within}
 use Rattle.dom_edit.specs.{declared.world.World.World, Whole.IsWhole, Whole.unwatched}
 use Rattle.dom_wrap.specs.Outcomes.{index_before}
-use Rattle.dom_edit.proofs.PlacedRoots.{length-numbers}
+use Rattle.dom_edit.proofs.PlacedInLemmas.{length-numbers}
 
 -- the offset is the sum of an index and a count
 pub offset-sum : (w : model.World) (parent : ℕ) (reference : Option ℕ) (n : ℕ) → offset_past w parent reference n ≡ index_before w parent reference + length (nodes_of w n)

@@ -9,8 +9,8 @@ use Rattle.dom_model.proofs.RangesAndContents.{InsertAllowed.insert-done, LiveRa
 use Rattle.dom_model.proofs.Soundness.{SoundEditing.checks_insert, SoundEditing.insertable, SoundRangeSteps.sound-with_range}
 use Rattle.dom_model.proofs.TokenText.{EditsMade.EditsOfDrawnContents.sound-range, EditsMade.EditsOfDrawnContents.check-range, EditsMade.EditsOfDrawnContents.there-contents_drawn, EditsMade.EditsOfDrawnContents.fragment-contents_drawn, EditsMade.EditsOfDrawnContents.live-contents_drawn, EditsMade.EditsOfInsertedNodes.kept-insert_node}
 use Rattle.dom_ranges.specs.Tables.{RangeTable, range_in}
-use Rattle.dom_edit.specs.{declared.world.World.World, Keeping.present, Whole.AreCovered, Whole.IsWhole, Whole.Keeps, Whole.Follows, Whole.unwatched}
-use Rattle.dom_edit.proofs.{Following.keeps-unwatched, Following.follows-then, Following.whole-sound, Leaving.sound-unwatched, Leaving.it_is, InsertedNodes.follows-as, WatchersKept.present-set}
+use Rattle.dom_edit.specs.{declared.world.World.World, KeptNodes.present, Whole.CoversHeld, Whole.IsWhole, Whole.Keeps, Whole.Follows, Whole.unwatched}
+use Rattle.dom_edit.proofs.{FollowsLemmas.keeps-unwatched, FollowsLemmas.follows-then, FollowsLemmas.whole-sound, RemoveLemmas.sound-unwatched, RemoveLemmas.it_is, InsertLemmas.follows-as, KeepsWatchersLemmas.present-set}
 use Rattle.dom_wrap.specs.Outcomes.{left_by, Passes, MayTake, put_around}
 use Rattle.dom_wrap.proofs.InsertedNode.{unless-none, unless-allows, left-alike, start-alike, parent-alike, reference-alike}
 
@@ -286,7 +286,7 @@ module _ (v : World) (h : IsWhole v) (r n : ℕ) (t : RangeTable) (ends : Range)
       let u = unwatched v in
       let s = sound-unwatched v h in
       let i : IsRange v.tree.forest ends = subst (λ (o : Option Range). IfSome o (IsRange v.tree.forest)) e (range_selected s.forest n) in
-      let covers : AreCovered v.tree t.covered = subst (AreCovered v.tree) (sym (ap (λ (x : RangeTable). x.covered) is)) h.covered in
+      let covers : CoversHeld v.tree t.covered = subst (CoversHeld v.tree) (sym (ap (λ (x : RangeTable). x.covered) is)) h.covered in
       whole-sound around_it (with_range r ends u) (follows-ends.keeps u (keeps-unwatched v)) (sound-with_range r ends u s i) h.documents h.owners covers h.statics h.observers
 
 module _ (v : World) (h : IsWhole v) (r n : ℕ) (t : RangeTable) (allowed : check_parent v.tree.forest n ≡ None)

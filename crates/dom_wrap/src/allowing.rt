@@ -11,7 +11,7 @@ ghost use Rattle.dom_model.specs.RangesAndContents.Contents.{common_of};
 ghost use Rattle.dom_model.specs.RangesAndContents.Wrapping.{check_whole_surround};
 ghost use Rattle.dom_ranges.specs.Tables.{range_in};
 ghost use Rattle.dom_edit.specs.Whole.{IsWhole, unwatched};
-ghost use Rattle.dom_edit.specs.Places.{from_optional, IsAmong};
+ghost use Rattle.dom_edit.specs.InsertionPoints.{from_optional, IsAmong};
 ghost use Rattle.dom_wrap.specs.Allowing.{is_near, is_refused_at, is_refused_between, is_refused, is_unplaceable, is_left_element, first_behind};
 
 use crate::inserting::{parent_at, reference_at};

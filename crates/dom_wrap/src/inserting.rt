@@ -12,7 +12,7 @@ ghost use Rattle.dom_model.specs.RangesAndContents.Wrapping.{insert_node, is_tex
 ghost use Rattle.dom_model.specs.TokenText.Edits.{insert_node_edits};
 ghost use Rattle.dom_ranges.specs.Tables.{range_in};
 ghost use Rattle.dom_edit.specs.Whole.{IsWhole, Keeps, Follows, unwatched};
-ghost use Rattle.dom_edit.specs.Keeping.{KeepsLabels};
+ghost use Rattle.dom_edit.specs.KeptNodes.{KeepsLabels};
 ghost use Rattle.dom_edit.specs.Markers.{StandByEdits};
 ghost use Rattle.dom_edit.specs.Refusals.{IsRefused};
 ghost use Rattle.dom_wrap.specs.Outcomes.{left_by, index_before, HasRoom, IsPlaceable, MayEndAt, MayTake};

@@ -9,7 +9,7 @@ ghost use Rattle.dom_model.specs.RangesAndContents.Wrapping.{surround, try_selec
 ghost use Rattle.dom_model.specs.TokenText.Edits.{surround_edits};
 ghost use Rattle.dom_ranges.specs.Tables.{range_in};
 ghost use Rattle.dom_edit.specs.Whole.{IsWhole, Follows, unwatched};
-ghost use Rattle.dom_edit.specs.Keeping.{KeepsLabels};
+ghost use Rattle.dom_edit.specs.KeptNodes.{KeepsLabels};
 ghost use Rattle.dom_edit.specs.Markers.{StandByEdits};
 ghost use Rattle.dom_edit.specs.Refusals.{IsRefused};
 ghost use Rattle.dom_wrap.specs.Outcomes.{left_by, put_around, HasRoom, Passes, MayTake};

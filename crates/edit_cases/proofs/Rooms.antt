@@ -3,7 +3,7 @@ use Rattle.std.proofs.Common.{ℕ, ◌+◌, ◌*◌, ◌<◌, ◌≤◌, Bool, O
 use Rattle.dom_model.specs.Definitions.{Forest, size, Content, original, extract, clone_contents, Outcome, surround}
 use Rattle.dom_model.proofs.Counting.{CountsOfContents.size-original, CountsOfExtraction.IsGrownTo, CountsOfExtraction.extract-grown, CountsOfExtraction.surround-to, CopiesOfContents.clone_contents-grown, NumbersKept.in_order}
 use Rattle.dom_edit.specs.{declared.world.World.World, Whole.IsWhole, Whole.unwatched}
-use Rattle.dom_edit.proofs.Leaving.{sound-unwatched}
+use Rattle.dom_edit.proofs.RemoveLemmas.{sound-unwatched}
 use Rattle.dom_wrap.specs.Outcomes.{left_by}
 
 pub room-copy_few : (made : ℕ) (deep : Bool) (n : ℕ) (f : Forest Content) → made < 1000 → size f < 1000 → made + size (original deep n f) ≤ 4294967295

@@ -1,5 +1,5 @@
 use Rattle.std.proofs.Common.{sym, subst}
-use Rattle.dom_edit.specs.Leaving.{LeavesAll}
+use Rattle.dom_edit.specs.OlderNodes.{LeavesAll}
 use Rattle.dom_clone.proofs.Left.{after_error, left-same}
 use Rattle.dom_clone.proofs.copying.copy_under.Goals as goal
 

@@ -1,7 +1,7 @@
 -- From the first child on.
 use Rattle.dom_model.specs.Definitions.{children_of}
 use Rattle.dom_model.proofs.Forests.Indices.{child-once}
-use Rattle.dom_edit.proofs.AmongChildren.{IsAmong-head}
+use Rattle.dom_edit.proofs.IsAmongLemmas.{IsAmong-head}
 use Rattle.dom_content.proofs.children.children_ahead.Goals as goal
 
 pub children_between-requires-clause-child : goal.children_between-requires-clause-child

@@ -1,8 +1,8 @@
 -- Each step takes one child, up to the one that ends the list.
 use Rattle.std.proofs.Common.{true, false, [], ◌∷◌, refl, sym, ◌∙◌, append_assoc, append-nil}
 use Rattle.dom_model.specs.Definitions.{children_of}
-use Rattle.dom_edit.specs.Places.{ahead_of}
-use Rattle.dom_edit.proofs.{AmongChildren.from_optional-given, AmongChildren.parent-among, Placing.ahead-here, Placing.ahead-on, Placing.ahead-none}
+use Rattle.dom_edit.specs.InsertionPoints.{children_ahead}
+use Rattle.dom_edit.proofs.{IsAmongLemmas.from_optional-given, IsAmongLemmas.parent-among, InsertionPointLemmas.ahead-here, InsertionPointLemmas.ahead-on, InsertionPointLemmas.ahead-none}
 use Rattle.dom_content.proofs.{ChildrenBetween.given-is, children.children_between.Goals.in-Some+then-eq, children.children_between.Goals.in-None}
 use Rattle.dom_content.proofs.children.children_between.Goals as goal
 
@@ -19,7 +19,7 @@ loop-child-preserved c =
     let rest = c.next.new.self in
     let on = ahead-on c.args.until c.in-Some.child rest (given-is c.args.until c.in-Some.child false (sym c.eq.ensures ∙ c.if-eq.false)) in
     let so_far = rw (c.in-Some.ensures.steps, on) at c.loop-child.invariant in
-    rw c.in_ok-push.ensures.items (append_assoc c.loop-child.list.items (c.in-Some.child ∷ []) (ahead_of c.args.until rest) ∙ so_far)
+    rw c.in_ok-push.ensures.items (append_assoc c.loop-child.list.items (c.in-Some.child ∷ []) (children_ahead c.args.until rest) ∙ so_far)
 
 pub returns : goal.returns
 returns c =

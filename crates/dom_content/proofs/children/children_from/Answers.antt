@@ -2,7 +2,7 @@
 use Rattle.std.proofs.Common.{◌≡◌, ℕ, List, ap, ◌∙◌, subst, IfOk}
 use Rattle.dom_model.specs.Definitions.{children_of}
 use Rattle.dom_model.proofs.Forests.Indices.{child-once}
-use Rattle.dom_edit.specs.Places.{from_optional}
+use Rattle.dom_edit.specs.InsertionPoints.{from_optional}
 use Rattle.dom_content.proofs.ChildrenBetween.{from-got, got-among}
 use Rattle.dom_content.proofs.children.children_from.Goals as goal
 

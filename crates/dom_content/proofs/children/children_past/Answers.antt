@@ -1,7 +1,7 @@
 -- From the next sibling on; none where the node is no child of the parent.
 use Rattle.std.proofs.Common.{◌≡◌, ℕ, true, false, List, Option, ap, sym, ◌∙◌, subst, IfOk}
 use Rattle.dom_model.specs.Definitions.{is_number, children_of}
-use Rattle.dom_edit.specs.Places.{IsAmong, from_optional}
+use Rattle.dom_edit.specs.InsertionPoints.{IsAmong, from_optional}
 use Rattle.dom_content.proofs.ChildrenBetween.{given-is, next-among, past-next, past-none}
 use Rattle.dom_content.proofs.children.children_past.Goals as goal
 

@@ -2,8 +2,8 @@
 use Rattle.std.proofs.Common.{◌≡◌, ℕ, List, ap, ◌∙◌, subst, IfOk}
 use Rattle.dom_model.specs.Definitions.{children_of}
 use Rattle.dom_model.proofs.Forests.Indices.{child-once}
-use Rattle.dom_edit.specs.Places.{ahead_of, from_optional}
-use Rattle.dom_edit.proofs.AmongChildren.{IsAmong-head, from_optional-head}
+use Rattle.dom_edit.specs.InsertionPoints.{children_ahead, from_optional}
+use Rattle.dom_edit.proofs.IsAmongLemmas.{IsAmong-head, from_optional-head}
 use Rattle.dom_content.proofs.ChildrenBetween.{ahead-got}
 use Rattle.dom_content.proofs.children.children_until.Goals as goal
 
@@ -16,8 +16,8 @@ pub returns : goal.returns
 returns c =
     let f = c.args.tree.now.forest in
     subst (λ (ns : List ℕ). IfOk c.children_between.result (λ list. list.items ≡ ns))
-    (ap (λ o. ahead_of c.child_at-until.result (from_optional o (children_of f c.args.parent))) c.first-from.ensures
-    ∙ ap (ahead_of c.child_at-until.result) (from_optional-head (children_of f c.args.parent))
-    ∙ ap (λ o. ahead_of o (children_of f c.args.parent)) c.child_at-until.ensures
+    (ap (λ o. children_ahead c.child_at-until.result (from_optional o (children_of f c.args.parent))) c.first-from.ensures
+    ∙ ap (children_ahead c.child_at-until.result) (from_optional-head (children_of f c.args.parent))
+    ∙ ap (λ o. children_ahead o (children_of f c.args.parent)) c.child_at-until.ensures
     ∙ ahead-got c.args.offset (children_of f c.args.parent) (λ m. child-once f c.sound.ensures.once m c.args.parent))
     c.children_between.ensures

@@ -1,5 +1,5 @@
 -- Each node takes its turn.
-use Rattle.dom_edit.proofs.NodesKept.{labels-then}
+use Rattle.dom_edit.proofs.KeepsNodesLemmas.{labels-then}
 use Rattle.dom_content.proofs.{LabelsKept.labels-none, EachRemoved.leaving-node, EachRemoved.leaving-next, EachRemoved.leaving-end}
 use Rattle.dom_content.proofs.deleting.remove_each.Goals as goal
 

@@ -1,5 +1,5 @@
 -- The nodes that were passed are out.
-use Rattle.dom_edit.specs.Keeping.{KeepsLabels}
+use Rattle.dom_edit.specs.KeptNodes.{KeepsLabels}
 use Rattle.dom_content.proofs.EachRemoved.{IsLeaving}
 use Rattle.dom_content.proofs.deleting.remove_each.Given as goal
 

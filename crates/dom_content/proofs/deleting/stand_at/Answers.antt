@@ -2,8 +2,8 @@
 use Rattle.std.proofs.Common.{ap, ◌∙◌}
 use Rattle.dom_model.specs.Definitions.{collapsed_at}
 use Rattle.dom_ranges.specs.Tables.{RangeTable}
-use Rattle.dom_edit.specs.Keeping.{present}
-use Rattle.dom_edit.proofs.{Leaving.held-covered, NodesKept.nodes-ranged, WatchersKept.present-set}
+use Rattle.dom_edit.specs.KeptNodes.{present}
+use Rattle.dom_edit.proofs.{RemoveLemmas.held-covered, KeepsNodesLemmas.nodes-ranged, KeepsWatchersLemmas.present-set}
 use Rattle.dom_content.proofs.EndsSet.{follows-standing, whole-standing}
 use Rattle.dom_content.proofs.deleting.stand_at.Goals as goal
 

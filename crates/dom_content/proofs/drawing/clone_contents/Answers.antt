@@ -7,7 +7,7 @@ use Rattle.dom_edit.specs.Refusals.{IsRefused}
 use Rattle.dom_content.specs.Left.{HoldsBetween, CopiesBetween}
 use Rattle.dom_content.proofs.{ContentsLeft.held-cloned, ContentsLeft.copied-cloned, ContentsMarked.asked-range, ContentsMarked.markers-cloned, DrawnContents.range-cloned, DrawnContents.room-cloned, RangeTexts.range-held}
 use Rattle.dom_content.proofs.drawing.clone_contents.Goals as goal
-use Rattle.dom_edit.proofs.InsertedNodes.{follows-as}
+use Rattle.dom_edit.proofs.InsertLemmas.{follows-as}
 
 pub drawable_parts-requires-clause-range : goal.drawable_parts-requires-clause-range
 drawable_parts-requires-clause-range c = range-held c.args.world.now c.requires.whole c.args.range (record { start = c.ends-start.result.0; end = c.ends-start.result.1 }) c.ends-start.ensures.ends

@@ -1,6 +1,6 @@
 -- The contained children are there, and one of them is a doctype or none is.
 use Rattle.std.proofs.Common.{sym, subst}
-use Rattle.dom_edit.specs.Inserting.{AreThere}
+use Rattle.dom_edit.specs.Insertion.{AreThere}
 use Rattle.dom_content.proofs.DrawnContents.{contained-held}
 use Rattle.dom_content.proofs.drawing.drawable_parts.Goals as goal
 

@@ -5,7 +5,7 @@ use Rattle.dom_model.specs.Definitions.{Range, extracted, extract}
 use Rattle.dom_edit.specs.Refusals.{IsRefused}
 use Rattle.dom_content.proofs.{ContentsExtracted.told-fragment, ContentsMarked.asked-range, DrawnContents.range-extracted, DrawnContents.room-extracted, RangeTexts.range-held}
 use Rattle.dom_content.proofs.drawing.extract.Goals as goal
-use Rattle.dom_edit.proofs.InsertedNodes.{follows-as}
+use Rattle.dom_edit.proofs.InsertLemmas.{follows-as}
 
 pub drawable_parts-requires-clause-range : goal.drawable_parts-requires-clause-range
 drawable_parts-requires-clause-range c = range-held c.args.world.now c.requires.whole c.args.range (record { start = c.ends-start.result.0; end = c.ends-start.result.1 }) c.ends-start.ensures.ends

@@ -4,7 +4,7 @@ use Rattle.dom_model.proofs.TokenText.EditsMade.EditsOfDrawnContents.{check-rang
 use Rattle.dom_edit.specs.Whole.{unwatched}
 use Rattle.dom_content.proofs.{ContentsExtracted.told-result, RangeTexts.range-held, DrawnContents.range-extracted, DrawnContents.room-extracted}
 use Rattle.dom_content.proofs.drawing.extract_checked.Goals as goal
-use Rattle.dom_edit.proofs.InsertedNodes.{follows-as}
+use Rattle.dom_edit.proofs.InsertLemmas.{follows-as}
 
 pub parts_of-requires : goal.parts_of-requires
 parts_of-requires c = record { range = range-held c.args.world.now c.requires.whole c.args.range (record { start = c.ends-start.result.0; end = c.ends-start.result.1 }) c.ends-start.ensures.ends }

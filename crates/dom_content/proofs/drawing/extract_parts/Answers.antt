@@ -1,7 +1,7 @@
 -- The ends stay, or go to the new place.
 use Rattle.std.proofs.Common.{true, ◌∙◌}
 use Rattle.dom_model.specs.Definitions.{Range}
-use Rattle.dom_edit.proofs.NodesKept.{labels-then}
+use Rattle.dom_edit.proofs.KeepsNodesLemmas.{labels-then}
 use Rattle.dom_content.proofs.{DrawnContents.extracted-here, DrawnContents.extracted-moved, DrawnContents.place-drawn, DrawnContents.live-drawn, PartsGathered.way-from_top, PartsGathered.place-by_parts, drawing.extract_parts.Goals.then-not-stays, drawing.extract_parts.Goals.else-not-stays}
 use Rattle.dom_content.proofs.drawing.extract_parts.Goals as goal
 

@@ -1,8 +1,8 @@
 -- One after another is finished.
 use Rattle.std.proofs.Common.{◌<◌, ◌≤◌, [], ◌∷◌, ◌++◌, length, arith, ⊎_elim}
 use Rattle.std.proofs.lemmas.Bool.{cases_lt, false≢true}
-use Rattle.dom_edit.proofs.NodesKept.{labels-then}
-use Rattle.dom_edit.specs.Leaving.{AreNewer}
+use Rattle.dom_edit.proofs.KeepsNodesLemmas.{labels-then}
+use Rattle.dom_edit.specs.OlderNodes.{AreNewer}
 use Rattle.dom_content.specs.Paths.{numbers_of_copies}
 use Rattle.dom_content.proofs.{LabelsKept.labels-none, OlderLeft.front-newer, OlderLeft.last-newer, PathSteps.closing-first, PathSteps.closing-last, PathSteps.closing-room, PathSteps.closing-next, PathSteps.closing-end, PathSteps.no_partials, PathSteps.fewer}
 use Rattle.dom_content.proofs.partial.close_all.Goals as goal

@@ -1,6 +1,6 @@
 -- Those that were taken off are finished.
 use Rattle.std.proofs.Common.{◌≡◌, false, length}
-use Rattle.dom_edit.specs.{declared.world.World.World, Keeping.KeepsLabels, Leaving.LeavesAll, Leaving.AreNewer, Whole.IsWhole}
+use Rattle.dom_edit.specs.{declared.world.World.World, KeptNodes.KeepsLabels, OlderNodes.LeavesAll, OlderNodes.AreNewer, Whole.IsWhole}
 use Rattle.dom_content.specs.Paths.{numbers_of_copies}
 use Rattle.dom_content.proofs.PathSteps.{IsClosing}
 use Rattle.dom_content.proofs.partial.close_all.Given as goal

@@ -6,7 +6,7 @@ use Rattle.dom_edit.specs.Whole.{Follows}
 use Rattle.dom_content.specs.Paths.{HasRoom}
 use Rattle.dom_content.proofs.{PieceSteps.room-child, PieceSteps.follows-child, OlderLeft.no_moves, StaysOf.stays-then, Comings.first-old, Comings.may-put, Comings.may-put_copy, Comings.copy-unreferred}
 use Rattle.dom_model.proofs.Forests.Climbing.{hits-first}
-use Rattle.dom_edit.proofs.LeftAlone.{newer-two}
+use Rattle.dom_edit.proofs.LeavesOlderLemmas.{newer-two}
 use Rattle.dom_clone.proofs.Left.{left-then}
 use Rattle.dom_content.proofs.pieces.child_into.Goals as goal
 

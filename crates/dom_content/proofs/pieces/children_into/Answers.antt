@@ -1,5 +1,5 @@
 -- Each node takes its turn.
-use Rattle.dom_edit.proofs.NodesKept.{labels-then}
+use Rattle.dom_edit.proofs.KeepsNodesLemmas.{labels-then}
 use Rattle.dom_content.proofs.{LabelsKept.labels-none, PieceSteps.filling-first, PieceSteps.filling-may, PieceSteps.filling-room, PieceSteps.filling-held, PieceSteps.filling-next, PieceSteps.filling-end}
 use Rattle.dom_content.proofs.pieces.children_into.Goals as goal
 

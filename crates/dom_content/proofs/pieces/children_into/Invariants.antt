@@ -1,6 +1,6 @@
 -- The nodes that were passed are in the fragment.
 use Rattle.std.proofs.Common.{◌≡◌, false, [], ◌∷◌}
-use Rattle.dom_edit.specs.{Keeping.KeepsLabels, Leaving.LeavesOlder}
+use Rattle.dom_edit.specs.{KeptNodes.KeepsLabels, OlderNodes.LeavesOlder}
 use Rattle.dom_content.proofs.PieceSteps.{IsFilling}
 use Rattle.dom_content.proofs.pieces.children_into.Given as goal
 

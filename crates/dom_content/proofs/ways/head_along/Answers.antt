@@ -2,7 +2,7 @@
 use Rattle.std.proofs.Common.{[], ◌∷◌, ◌+◌, drop, arith}
 use Rattle.std.proofs.lemmas.Result.{on_ok_weaker}
 use Rattle.dom_model.specs.Definitions.{head_into}
-use Rattle.dom_edit.proofs.NodesKept.{labels-then}
+use Rattle.dom_edit.proofs.KeepsNodesLemmas.{labels-then}
 use Rattle.dom_content.proofs.{LabelsKept.labels-none, OlderLeft.first-newer, OlderLeft.rest-newer, OlderLeft.more-newer, PathSteps.down-first, PathSteps.down-first_old, PathSteps.down-held, PathSteps.down-may, PathSteps.down-room, PathSteps.down-next, PathSteps.down-close, PathSteps.down-close_room, PathSteps.down-end, PathSteps.down-more, PathSteps.down-last, PathHeads.head-enters, PathHeads.head-down, StaysOf.stays-then, Comings.rest-old, Comings.front-goes, Comings.goes-entered, Comings.entered-unfinished, Comings.goes-head}
 use Rattle.dom_content.specs.Paths.{entered, numbers_of_copies}
 use Rattle.dom_content.proofs.ways.head_along.Goals as goal

@@ -2,7 +2,7 @@
 use Rattle.std.proofs.Common.{[], ◌∷◌, ◌+◌, drop, arith}
 use Rattle.std.proofs.lemmas.Result.{on_ok_weaker}
 use Rattle.dom_model.specs.Definitions.{tail_into, past, children_of}
-use Rattle.dom_edit.proofs.NodesKept.{labels-then}
+use Rattle.dom_edit.proofs.KeepsNodesLemmas.{labels-then}
 use Rattle.dom_content.proofs.{LabelsKept.labels-none, OlderLeft.first-newer, OlderLeft.rest-newer, OlderLeft.more-newer, PathSteps.down-first, PathSteps.down-first_old, PathSteps.down-held, PathSteps.down-may, PathSteps.down-next_held, PathSteps.down-room, PathSteps.down-next, PathSteps.down-close, PathSteps.down-close_room, PathSteps.down-end, PathSteps.down-more, PathSteps.down-last, PathSteps.tail-opens, PathSteps.tail-down, StaysOf.stays-then, Comings.rest-old, Comings.children-old, Comings.way-goes, Comings.goes-opened, Comings.opened-unfinished, Comings.goes-tail}
 use Rattle.dom_content.specs.{Paths.opened, Paths.numbers_of_copies, Coming.AreOld}
 use Rattle.dom_model.proofs.RangesAndContents.DrawnPaths.{hits-past}

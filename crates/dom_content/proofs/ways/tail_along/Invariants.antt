@@ -1,7 +1,7 @@
 -- The nodes that were passed are opened.
 use Rattle.std.proofs.Common.{◌≡◌, false, [], ◌∷◌, drop}
 use Rattle.dom_model.specs.Definitions.{tail_into}
-use Rattle.dom_edit.specs.{declared.world.World.World, Keeping.KeepsLabels, Leaving.LeavesAll, Leaving.AreNewer, Whole.IsWhole}
+use Rattle.dom_edit.specs.{declared.world.World.World, KeptNodes.KeepsLabels, OlderNodes.LeavesAll, OlderNodes.AreNewer, Whole.IsWhole}
 use Rattle.dom_content.specs.Paths.{numbers_of_copies}
 use Rattle.dom_content.proofs.PathSteps.{IsGoingDown}
 use Rattle.dom_content.proofs.ways.tail_along.Given as goal

@@ -4,7 +4,7 @@ use Rattle.std.proofs.lemmas.Result.{on_ok_weaker}
 use Rattle.dom_model.specs.Definitions.{attribute_value, Forest, entry_in, ancestors, Content, Mutation, Observing, standing_on, noted, content_in}
 use Rattle.dom_model.specs.declared.RecordType.TheVariants.{Attributes}
 use Rattle.dom_edit.specs.declared.world.World.{World}
-use Rattle.dom_edit.proofs.{NodesKept.one-there, Named.whole-named}
+use Rattle.dom_edit.proofs.{KeepsNodesLemmas.one-there, AreThereLemmas.whole-named}
 use Rattle.dom_observe.specs.{ObservedNodes.nodes_of_mutation, ObservedNodes.NamesOnly, Watchers.Watches}
 use Rattle.dom_data.proofs.Told.{follows-told}
 use Rattle.dom_data.proofs.records.tell_attribute.Goals as goal

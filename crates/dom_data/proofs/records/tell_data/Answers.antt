@@ -4,7 +4,7 @@ use Rattle.std.proofs.lemmas.Result.{on_ok_weaker}
 use Rattle.dom_model.specs.declared.RecordType.TheVariants.{CharacterData}
 use Rattle.dom_model.specs.Definitions.{Forest, entry_in, Content, content_in}
 use Rattle.dom_edit.specs.declared.world.World.{World}
-use Rattle.dom_edit.proofs.{NodesKept.one-there, Named.whole-named}
+use Rattle.dom_edit.proofs.{KeepsNodesLemmas.one-there, AreThereLemmas.whole-named}
 use Rattle.dom_data.specs.Changes.{Tells}
 use Rattle.dom_data.proofs.Told.{follows-told}
 use Rattle.dom_data.proofs.records.tell_data.Goals as goal

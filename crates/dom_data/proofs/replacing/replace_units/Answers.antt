@@ -3,8 +3,8 @@ use Rattle.std.proofs.Common.{◌≡◌, ◌+◌, ◌≤◌, true, length, refl,
 use Rattle.dom_model.specs.Definitions.{is_character_data, entry_in, kind_passes, content_in, data_of}
 use Rattle.dom_model.proofs.Soundness.SoundData.{length-spliced}
 use Rattle.dom_ranges.specs.Tables.{RangeTable}
-use Rattle.dom_edit.specs.{declared.world.World.World, Whole.unwatched, Keeping.present}
-use Rattle.dom_edit.proofs.WatchersKept.{present-moved, watchers-observed, watchers-ranged}
+use Rattle.dom_edit.specs.{declared.world.World.World, Whole.unwatched, KeptNodes.present}
+use Rattle.dom_edit.proofs.KeepsWatchersLemmas.{present-moved, watchers-observed, watchers-ranged}
 use Rattle.dom_data.proofs.{MovedOffsets.splice-fits, StaysWhole.whole-replaced, LabelsKept.numbers-same, LabelsKept.numbers-then, LabelsKept.numbers-replaced}
 use Rattle.dom_data.proofs.replacing.replace_units.Goals as goal
 

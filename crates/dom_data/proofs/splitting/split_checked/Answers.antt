@@ -1,8 +1,8 @@
 -- An empty Text, its place behind the old one, and what is beyond the offset in it.
 use Rattle.std.proofs.Common.{ℕ, ◌-◌, List, length, ap, sym, ◌∙◌, subst}
 use Rattle.dom_model.specs.Definitions.{split, Content}
-use Rattle.dom_edit.specs.{declared.world.World.World, Keeping.KeepsLabels, Whole.IsWhole, Whole.Follows}
-use Rattle.dom_edit.proofs.NodesKept.{labels-then, nodes-observed}
+use Rattle.dom_edit.specs.{declared.world.World.World, KeptNodes.KeepsLabels, Whole.IsWhole, Whole.Follows}
+use Rattle.dom_edit.proofs.KeepsNodesLemmas.{labels-then, nodes-observed}
 use Rattle.dom_data.specs.Tails.{HasRoom}
 use Rattle.dom_data.proofs.{Behind.is-tail, Marking.stand-by_split}
 use Rattle.dom_data.proofs.SplitSteps as steps

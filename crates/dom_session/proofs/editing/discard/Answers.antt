@@ -2,7 +2,7 @@ use Rattle.std.proofs.Common.{◌≡◌, true, refl, sym, subst, ◌∙◌, is_s
 use Rattle.std.proofs.lemmas.Bool.{not-false, not-true}
 use Rattle.dom_model.specs.declared.OwnError.TheVariants.{InUse}
 use Rattle.dom_model.specs.Definitions.{entry_in, Discard, is_in_use, discarded}
-use Rattle.dom_edit.specs.{declared.world.World.World, Used.is_used}
+use Rattle.dom_edit.specs.{declared.world.World.World, UsedNodes.is_used}
 use Rattle.dom_session.specs.{declared.brief.Brief.TheVariants.Nothing, declared.brief.Brief.TheVariants.Own, declared.reply.Reply.TheVariants.Brief, Stands.IsStep}
 use Rattle.dom_session.proofs.{Stepping.step-follows, Stepping.step-stays, TreeEdits.answer-discard, TreeEdits.refused-discard}
 use Rattle.dom_session.proofs.editing.discard.Goals as goal

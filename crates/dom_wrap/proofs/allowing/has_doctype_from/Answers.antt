@@ -1,8 +1,8 @@
 use Rattle.std.proofs.Common.{refl, sym, ◌∙◌}
 use Rattle.dom_model.specs.declared.Kind.TheVariants.{DocumentType}
 use Rattle.dom_model.specs.Definitions.{children_of, has_kind, is_of_kind}
-use Rattle.dom_edit.specs.Places.{from_optional}
-use Rattle.dom_edit.proofs.AmongChildren.{from-among, first-among, from_optional-given, HasNode-child, parent-among}
+use Rattle.dom_edit.specs.InsertionPoints.{from_optional}
+use Rattle.dom_edit.proofs.IsAmongLemmas.{from-among, first-among, from_optional-given, HasNode-child, parent-among}
 use Rattle.dom_wrap.proofs.AllowCode.{found-first}
 use Rattle.dom_wrap.proofs.allowing.has_doctype_from.Goals as goal
 

@@ -2,8 +2,8 @@
 use Rattle.std.proofs.Common.{◌≡◌}
 use Rattle.dom_model.specs.declared.Kind.TheVariants.{DocumentType}
 use Rattle.dom_model.specs.Definitions.{children_of, has_kind}
-use Rattle.dom_edit.proofs.AmongChildren.{AreAmong}
-use Rattle.dom_edit.specs.Places.{from_optional}
+use Rattle.dom_edit.proofs.IsAmongLemmas.{AreAmong}
+use Rattle.dom_edit.specs.InsertionPoints.{from_optional}
 use Rattle.dom_wrap.proofs.allowing.has_doctype_from.Given as goal
 
 abbrev pub invariant-loop-child : goal.invariant-loop-child

@@ -3,7 +3,7 @@ use Rattle.std.proofs.Common.{◌≡◌}
 use Rattle.std.specs.List.{list_any}
 use Rattle.dom_model.specs.Definitions.{children_of}
 use Rattle.dom_edit.specs.Whole.{unwatched}
-use Rattle.dom_edit.proofs.AmongChildren.{AreAmong}
+use Rattle.dom_edit.proofs.IsAmongLemmas.{AreAmong}
 use Rattle.dom_wrap.specs.Allowing.{is_left_element}
 use Rattle.dom_wrap.proofs.allowing.leaves_element.Given as goal
 

@@ -2,8 +2,8 @@ use Rattle.std.proofs.Common.{Option, is_some, ap, sym, ◌∙◌, tests, rules,
 use Rattle.std.proofs.lemmas.Grind.{common_steps}
 use Rattle.dom_model.specs.Definitions.{Range}
 use Rattle.dom_ranges.specs.Tables.{RangeTable}
-use Rattle.dom_edit.specs.Keeping.{present}
-use Rattle.dom_edit.proofs.{Leaving.held-covered, NodesKept.nodes-ranged, WatchersKept.present-set}
+use Rattle.dom_edit.specs.KeptNodes.{present}
+use Rattle.dom_edit.proofs.{RemoveLemmas.held-covered, KeepsNodesLemmas.nodes-ranged, KeepsWatchersLemmas.present-set}
 use Rattle.dom_wrap.proofs.InsertedNode.{grown-range, set-done, follows-ended, whole-ended}
 use Rattle.dom_wrap.proofs.inserting.end_if_collapsed.Goals as goal
 

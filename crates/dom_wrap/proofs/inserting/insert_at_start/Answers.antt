@@ -4,7 +4,7 @@ use Rattle.dom_model.specs.Definitions.{Range}
 use Rattle.dom_model.proofs.Soundness.{SoundDeleting.offset_of_start, SoundSplitting.text_has_data}
 use Rattle.dom_model.proofs.TokenText.EditsMade.EditsOfDrawnContents.{sound-range}
 use Rattle.dom_edit.specs.Whole.{unwatched}
-use Rattle.dom_edit.proofs.Following.{sound-unwatched}
+use Rattle.dom_edit.proofs.FollowsLemmas.{sound-unwatched}
 use Rattle.dom_wrap.proofs.{InsertedNode.checks-passed, InsertedNode.held-split, InsertedNode.placeable, InsertedNode.insert-allowed-so, InsertedNode.follows-inserted, SurroundingSteps.on-ok_both}
 use Rattle.dom_wrap.proofs.inserting.insert_at_start.Goals as goal
 

@@ -1,6 +1,6 @@
 use Rattle.std.proofs.Common.{false, tests, rules}
 use Rattle.dom_model.proofs.Forests.Entries.{HasNode-occurs, occurs-HasNode}
-use Rattle.dom_edit.proofs.{InsertedNodes.there-removed, NodesKept.labels-then}
+use Rattle.dom_edit.proofs.{InsertLemmas.there-removed, KeepsNodesLemmas.labels-then}
 use Rattle.dom_wrap.proofs.InsertedNode.{passes-out, placed-allowed, may-end, follows-placed}
 use Rattle.dom_wrap.proofs.inserting.place.Goals as goal
 

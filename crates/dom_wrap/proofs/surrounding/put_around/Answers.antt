@@ -1,6 +1,6 @@
 use Rattle.std.proofs.Common.{None}
 use Rattle.dom_model.specs.Definitions.{and_then, try_pre_insert, insert_node, try_select}
-use Rattle.dom_edit.proofs.NodesKept.{labels-then}
+use Rattle.dom_edit.proofs.KeepsNodesLemmas.{labels-then}
 use Rattle.dom_wrap.specs.Outcomes.{MayTake}
 use Rattle.dom_wrap.proofs.SurroundingSteps.{Stays, take-first, take-next, insert-passes, parent-passes-there, stays-inserted, passes-inserted, stays-appended, passes-appended, passes-put}
 use Rattle.dom_wrap.proofs.surrounding.put_around.Goals as goal

@@ -1,4 +1,4 @@
-use Rattle.dom_edit.proofs.{Leaving.held-covered, Leaving.parent-held, NodesKept.nodes-ranged}
+use Rattle.dom_edit.proofs.{RemoveLemmas.held-covered, RemoveLemmas.parent-held, KeepsNodesLemmas.nodes-ranged}
 use Rattle.dom_wrap.proofs.SurroundingSteps.{passes-selected, whole-selected, present-selected}
 use Rattle.dom_wrap.proofs.surrounding.select.Goals as goal
 

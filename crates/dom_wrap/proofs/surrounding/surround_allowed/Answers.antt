@@ -2,7 +2,7 @@ use Rattle.std.proofs.Common.{ℕ, None, sym, subst}
 use Rattle.std.proofs.lemmas.Result.{on_ok_weaker}
 use Rattle.dom_model.specs.Definitions.{HasNode, extract, replace_all, try_extract}
 use Rattle.dom_edit.specs.Whole.{unwatched}
-use Rattle.dom_edit.proofs.{Following.keeps-unwatched, NodesKept.labels-then}
+use Rattle.dom_edit.proofs.{FollowsLemmas.keeps-unwatched, KeepsNodesLemmas.labels-then}
 use Rattle.dom_wrap.specs.Outcomes.{Passes, MayTake, put_around}
 use Rattle.dom_wrap.proofs.{SurroundingRoom.room-extract, SurroundingRoom.room-emptied, SurroundingSteps.Stays, SurroundingSteps.take-next, SurroundingSteps.take-step, SurroundingSteps.take-whole, SurroundingSteps.extract-passes, SurroundingSteps.stays-extracted, SurroundingSteps.fragment-there, SurroundingSteps.stays-emptied, SurroundingSteps.passes-extracted, SurroundingSteps.follows-surrounded}
 use Rattle.dom_wrap.proofs.surrounding.surround_allowed.Goals as goal

@@ -1,7 +1,7 @@
 use Rattle.std.proofs.Common.{None, is_some, ◌≡◌, false, refl, ap, sym, ◌∙◌, tests, rules}
 use Rattle.dom_model.specs.declared.Kind.TheVariants.{Document}
 use Rattle.dom_model.specs.Definitions.{parent_of, is_of_kind}
-use Rattle.dom_edit.proofs.Naming.{root-not_held, not_in_use, not_used}
+use Rattle.dom_edit.proofs.IsUsedLemmas.{root-not_held, not_in_use, not_used}
 use Rattle.dom_edit.proofs.world.World.can_discard.Goals as goal
 use Rattle.dom_tree.proofs.RefersLemmas.{none-from}
 

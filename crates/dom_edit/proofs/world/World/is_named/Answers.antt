@@ -2,7 +2,7 @@ use Rattle.std.proofs.Common.{◌||◌, ◌≡◌, ℕ, Bool, refl, ◌∙◌}
 use Rattle.std.specs.List.{list_any, flat_map}
 use Rattle.dom_model.specs.Definitions.{among, inclusive_descendants, nodes_of_range, nodes_of_iterator, nodes_of_walker, nodes_unless_released, observed_nodes}
 use Rattle.dom_observe.specs.ObservedNodes.{referred_nodes}
-use Rattle.dom_edit.proofs.{Naming.or-met, Naming.or-next, Naming.named-own, Naming.named-parts, world.World.is_named.Goals.then-refers, world.World.is_named.Goals.else-refers, world.World.is_named.Goals.then-refers-2, world.World.is_named.Goals.else-refers-2, world.World.is_named.Goals.then-refers-3, world.World.is_named.Goals.else-refers-3}
+use Rattle.dom_edit.proofs.{IsUsedLemmas.or-met, IsUsedLemmas.or-next, IsUsedLemmas.named-own, IsUsedLemmas.named-parts, world.World.is_named.Goals.then-refers, world.World.is_named.Goals.else-refers, world.World.is_named.Goals.then-refers-2, world.World.is_named.Goals.else-refers-2, world.World.is_named.Goals.then-refers-3, world.World.is_named.Goals.else-refers-3}
 use Rattle.dom_edit.proofs.world.World.is_named.Goals as goal
 
 pub returns-then-refers-4-clause-own : goal.returns-then-refers-4-clause-own
