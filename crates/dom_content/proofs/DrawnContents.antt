@@ -15,7 +15,7 @@ use Rattle.dom_model.proofs.TokenText.EditsMade.EditsOfDrawnContents.{live-conte
 use Rattle.dom_ranges.specs.Tables.{range_in}
 use Rattle.dom_edit.specs.{declared.world.World.World, Insertion.AreThere, Whole.IsWhole, Whole.Keeps, Whole.Follows, Whole.unwatched}
 use Rattle.dom_edit.proofs.{FollowsLemmas.follows-then, FollowsLemmas.keeps-unwatched, InsertLemmas.item-hit, InsertLemmas.follows-as}
-use Rattle.dom_data.proofs.StaysWhole.{sound-unwatched}
+use Rattle.dom_data.proofs.IsWholeLemmas.{sound-unwatched}
 use Rattle.dom_content.specs.{Paths.HasRoom, Drawing.AreParts, Drawing.in_one_data, Drawing.parts_drawn, Drawing.filled}
 use Rattle.dom_content.proofs.{PieceSteps.room-before, PieceSteps.room-after, DrawnNumbers.head-rises, DrawnNumbers.rest-rises, DrawnNumbers.filled-rises}
 

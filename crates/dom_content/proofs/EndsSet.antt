@@ -5,7 +5,7 @@ use Rattle.dom_model.proofs.Soundness.SoundRangeSteps.{sound-with_range}
 use Rattle.dom_ranges.specs.Tables.{RangeTable}
 use Rattle.dom_edit.specs.{declared.world.World.World, Whole.CoversHeld, Whole.IsWhole, Whole.Follows, Whole.unwatched}
 use Rattle.dom_edit.proofs.FollowsLemmas.{keeps-unwatched, whole-sound}
-use Rattle.dom_data.proofs.StaysWhole.{sound-unwatched}
+use Rattle.dom_data.proofs.IsWholeLemmas.{sound-unwatched}
 
 module _ (v : World) (r : ℕ) (p : Point) (u : RangeTable) (is : u ≡ record v.ranges { ranges = slice_set v.ranges.ranges r (Some (collapsed_at p)) }) where
   pub follows-standing : Follows v (record v { ranges = u }) (with_range r (collapsed_at p))

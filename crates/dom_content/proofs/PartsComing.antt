@@ -13,7 +13,7 @@ use Rattle.dom_model.proofs.RangesAndContents.{Drawing.Draws, DrawnPaths.ArePath
 use Rattle.dom_model.proofs.TokenText.EditsMade.EditsOfDrawnContents as drawn
 use Rattle.dom_edit.specs.{declared.world.World.World, Whole.IsWhole, Whole.Keeps, Whole.Follows, Whole.unwatched}
 use Rattle.dom_edit.proofs.FollowsLemmas.{keeps-unwatched}
-use Rattle.dom_data.proofs.StaysWhole.{sound-unwatched}
+use Rattle.dom_data.proofs.IsWholeLemmas.{sound-unwatched}
 use Rattle.dom_content.specs.{Paths.Stays, Coming.AreOld, Coming.MayDraw, Coming.IsPathTo, Drawing.AreParts, Drawing.in_one_data}
 use Rattle.dom_content.proofs.{StaysOf.ends-old, Comings.old-of, Comings.both-old, Comings.olds-of, Comings.way-of, Comings.front-of, DrawnContents.path-same, DrawnContents.root-same}
 

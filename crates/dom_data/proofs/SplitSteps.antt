@@ -11,8 +11,8 @@ use Rattle.dom_ranges.specs.Tables.{RangeTable}
 use Rattle.dom_observe.proofs.NamesHeldLemmas.{held-kept}
 use Rattle.dom_edit.specs.{declared.world.World.World, KeptNodes.present, KeptNodes.KeepsLabels, KeptNodes.KeepsNodes, KeptNodes.attributes_at, Whole.CoversHeld, Whole.IsWhole, Whole.Keeps, Whole.Follows, Whole.unwatched}
 use Rattle.dom_edit.proofs.{CoversHeldLemmas.covered-kept, FollowsLemmas.follows-then, FollowsLemmas.keeps-unwatched, FollowsLemmas.whole-sound, KeepsWatchersLemmas.present-moved, KeepsWatchersLemmas.watchers-ranged}
-use Rattle.dom_data.specs.{Tails.HasRoom, Tails.tail_in, Turns.put_behind, Turns.ends_behind, Turns.tail_moved, Turns.split_in_turn}
-use Rattle.dom_data.proofs.{LabelsKept.numbers-replaced, LabelsKept.numbers-then, NewTexts.made_is, NewTexts.new-there, NewTexts.old-there, Parting.text-held, SplitInTurn.split-in-turn, StaysWhole.documents-with_node, StaysWhole.owners-with_node, StaysWhole.sound-unwatched, StaysWhole.follows-alike}
+use Rattle.dom_data.specs.{Tails.HasNextSibling, Tails.tail_in, SplitInTurn.put_behind, SplitInTurn.ends_behind, SplitInTurn.tail_moved, SplitInTurn.split_in_turn}
+use Rattle.dom_data.proofs.{KeepsNumbersLemmas.numbers-replaced, KeepsNumbersLemmas.numbers-then, NewTexts.made_is, NewTexts.new-there, NewTexts.old-there, TextHeldLemmas.text-held, SplitInTurn.split-in-turn, IsWholeLemmas.documents-with_node, IsWholeLemmas.owners-with_node, IsWholeLemmas.sound-unwatched, IsWholeLemmas.follows-alike}
 
 -- where no end stands in the parent, the index matters to none
 pub split-apart : (n offset new parent i j : ℕ) (q : Point) → (q.node == parent) ≡ false → after_split n offset new parent i q ≡ after_split n offset new parent j q
@@ -60,8 +60,8 @@ module _ (told : World) (n offset id : ℕ) where
     pub held-moved : (m : ℕ) → HasNode told.tree.forest m → HasNode tree.forest m
     held-moved m h = subst (λ f. HasNode f m) forest_is (there-alike alike m h)
 
-    pub room-moved : HasRoom told.tree.forest n → HasRoom tree.forest n
-    room-moved h = subst (λ f. HasRoom f n) forest_is (subst (λ p. IfSome p (λ q. index_of moved n + 2 ≤ length (children_of moved q))) (sym (parent-alike alike n)) (go (parent_of told.tree.forest n) h))
+    pub room-moved : HasNextSibling told.tree.forest n → HasNextSibling tree.forest n
+    room-moved h = subst (λ f. HasNextSibling f n) forest_is (subst (λ p. IfSome p (λ q. index_of moved n + 2 ≤ length (children_of moved q))) (sym (parent-alike alike n)) (go (parent_of told.tree.forest n) h))
       where
         go : (p : Option ℕ) → IfSome p (λ q. index_of told.tree.forest n + 2 ≤ length (children_of told.tree.forest q)) → IfSome p (λ q. index_of moved n + 2 ≤ length (children_of moved q))
         go None k = tt

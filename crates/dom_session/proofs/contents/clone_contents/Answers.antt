@@ -5,7 +5,7 @@ use Rattle.dom_edit.specs.Whole.{unwatched}
 use Rattle.dom_session.specs.{declared.brief.Brief.TheVariants.Number, declared.reply.Reply.TheVariants.Brief, Limiting.numbered}
 use Rattle.dom_session.proofs.{Stepping.step-follows, Stepping.step-refused, ContentsAnswers.room-clone_contents, ContentsAnswers.answer-clone_contents, WorldsKept.kept_labels}
 use Rattle.dom_session.proofs.contents.clone_contents.Goals as goal
-use Rattle.dom_data.proofs.Outcomes.{on_err}
+use Rattle.dom_data.proofs.ResultLemmas.{on_err}
 
 pub clone_contents-requires-clause-room : goal.clone_contents-requires-clause-room
 clone_contents-requires-clause-room c =

@@ -5,7 +5,7 @@ use Rattle.dom_edit.specs.Whole.{unwatched}
 use Rattle.dom_session.specs.{declared.brief.Brief.TheVariants.Number, declared.reply.Reply.TheVariants.Brief, Limiting.numbered}
 use Rattle.dom_session.proofs.{Stepping.step-follows, Stepping.step-refused, ContentsAnswers.room-extract, ContentsAnswers.answer-extract_contents, WorldsKept.kept_labels}
 use Rattle.dom_session.proofs.contents.extract_contents.Goals as goal
-use Rattle.dom_data.proofs.Outcomes.{on_err}
+use Rattle.dom_data.proofs.ResultLemmas.{on_err}
 
 pub extract-requires-clause-room : goal.extract-requires-clause-room
 extract-requires-clause-room c =

@@ -7,7 +7,7 @@ use Rattle.dom_wrap.specs.Outcomes.{left_by}
 use Rattle.dom_session.specs.{declared.brief.Brief.TheVariants.Nothing, declared.reply.Reply.TheVariants.Brief, Limiting.numbered}
 use Rattle.dom_session.proofs.{Stepping.step-follows, Stepping.step-refused, ContentsAnswers.answer-insert_node, ContentsAnswers.refused-insert_node, WorldsKept.kept_labels}
 use Rattle.dom_session.proofs.contents.insert_node.Goals as goal
-use Rattle.dom_data.proofs.Outcomes.{on_err}
+use Rattle.dom_data.proofs.ResultLemmas.{on_err}
 
 pub returns-in-Ok : goal.returns-in-Ok
 returns-in-Ok c =

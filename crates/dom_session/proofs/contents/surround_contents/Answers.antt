@@ -6,7 +6,7 @@ use Rattle.dom_wrap.specs.Outcomes.{left_by}
 use Rattle.dom_session.specs.{declared.brief.Brief.TheVariants.Nothing, declared.reply.Reply.TheVariants.Brief, Limiting.numbered}
 use Rattle.dom_session.proofs.{Stepping.step-follows, Stepping.step-refused, ContentsAnswers.room-surround, ContentsAnswers.answer-surround, ContentsAnswers.refused-surround, WorldsKept.kept_labels}
 use Rattle.dom_session.proofs.contents.surround_contents.Goals as goal
-use Rattle.dom_data.proofs.Outcomes.{on_err}
+use Rattle.dom_data.proofs.ResultLemmas.{on_err}
 
 pub surround-requires-clause-room : goal.surround-requires-clause-room
 surround-requires-clause-room c =

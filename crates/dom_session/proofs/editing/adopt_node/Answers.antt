@@ -5,7 +5,7 @@ use Rattle.dom_session.specs.{declared.brief.Brief.TheVariants.Number, declared.
 use Rattle.dom_edit.specs.Refusals.{check_adopt}
 use Rattle.dom_session.proofs.{Stepping.step-follows, Stepping.steps-refused-briefly, TreeEdits.answer-adopt_node, TreeEdits.refused-adopt_node, WorldsKept.kept_nodes}
 use Rattle.dom_session.proofs.editing.adopt_node.Goals as goal
-use Rattle.dom_data.proofs.Outcomes.{on_err}
+use Rattle.dom_data.proofs.ResultLemmas.{on_err}
 
 pub returns-in-Ok : goal.returns-in-Ok
 returns-in-Ok c =

@@ -4,7 +4,7 @@ use Rattle.dom_model.specs.Definitions.{entry_in, InsertBefore, check_insert, pr
 use Rattle.dom_session.specs.{declared.brief.Brief.TheVariants.Number, declared.reply.Reply.TheVariants.Brief, Refusing.lacks_given}
 use Rattle.dom_session.proofs.{Stepping.step-follows, Stepping.steps-refused-briefly, TreeEdits.answer-insert_before, WorldsKept.kept_nodes}
 use Rattle.dom_session.proofs.editing.insert_before.Goals as goal
-use Rattle.dom_data.proofs.Outcomes.{on_err}
+use Rattle.dom_data.proofs.ResultLemmas.{on_err}
 
 pub returns-in-Ok : goal.returns-in-Ok
 returns-in-Ok c =

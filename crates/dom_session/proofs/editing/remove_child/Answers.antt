@@ -4,7 +4,7 @@ use Rattle.dom_session.specs.{declared.brief.Brief.TheVariants.Number, declared.
 use Rattle.dom_edit.specs.Refusals.{check_remove_child}
 use Rattle.dom_session.proofs.{Stepping.step-follows, Stepping.steps-refused-briefly, TreeEdits.answer-remove_child, TreeEdits.refused-remove_child, WorldsKept.kept_nodes}
 use Rattle.dom_session.proofs.editing.remove_child.Goals as goal
-use Rattle.dom_data.proofs.Outcomes.{on_err}
+use Rattle.dom_data.proofs.ResultLemmas.{on_err}
 
 pub returns-in-Ok : goal.returns-in-Ok
 returns-in-Ok c =

@@ -3,7 +3,7 @@ use Rattle.dom_model.specs.Definitions.{entry_in, ReplaceChild, check_replace, r
 use Rattle.dom_session.specs.{declared.brief.Brief.TheVariants.Number, declared.reply.Reply.TheVariants.Brief}
 use Rattle.dom_session.proofs.{Stepping.step-follows, Stepping.steps-refused-briefly, TreeEdits.answer-replace_child, WorldsKept.kept_nodes}
 use Rattle.dom_session.proofs.editing.replace_child.Goals as goal
-use Rattle.dom_data.proofs.Outcomes.{on_err}
+use Rattle.dom_data.proofs.ResultLemmas.{on_err}
 
 pub returns-in-Ok : goal.returns-in-Ok
 returns-in-Ok c =

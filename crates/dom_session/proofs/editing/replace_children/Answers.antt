@@ -6,7 +6,7 @@ use Rattle.dom_session.specs.{declared.brief.Brief.TheVariants.Nothing, declared
 use Rattle.dom_edit.specs.Refusals.{check_only_child}
 use Rattle.dom_session.proofs.{Stepping.step-follows, Stepping.step-stays, Stepping.steps-refused-briefly, TreeEdits.kind_passes-label, TreeEdits.answer-replace_children, TreeEdits.refused-replace_children, TreeEdits.refused-parent, WorldsKept.kept_nodes}
 use Rattle.dom_session.proofs.editing.replace_children.Goals as goal
-use Rattle.dom_data.proofs.Outcomes.{on_err}
+use Rattle.dom_data.proofs.ResultLemmas.{on_err}
 
 pub returns-then-not-may_be_parent : goal.returns-then-not-may_be_parent
 returns-then-not-may_be_parent c =

@@ -4,7 +4,7 @@ use Rattle.dom_edit.specs.Whole.{unwatched}
 use Rattle.dom_session.specs.{declared.brief.Brief.TheVariants.Nothing, declared.reply.Reply.TheVariants.Brief}
 use Rattle.dom_session.proofs.{Stepping.step-follows, Stepping.steps-refused, NodeData.answer-replace_data, WorldsKept.kept_numbers, OtherKinds.step-other_kind}
 use Rattle.dom_session.proofs.texts.replace_data.Goals as goal
-use Rattle.dom_data.proofs.Outcomes.{on_err}
+use Rattle.dom_data.proofs.ResultLemmas.{on_err}
 
 pub returns-in-Ok : goal.returns-in-Ok
 returns-in-Ok c =

@@ -5,7 +5,7 @@ use Rattle.dom_edit.specs.Whole.{unwatched}
 use Rattle.dom_session.specs.{declared.brief.Brief.TheVariants.Number, declared.reply.Reply.TheVariants.Brief, Views.reply_view, Limiting.numbered}
 use Rattle.dom_session.proofs.{Stepping.step-follows, Stepping.step-stays, Stepping.step-refused, NodeData.answer-split_text, NodeData.refused-split_text, WorldsKept.kept_labels}
 use Rattle.dom_session.proofs.texts.split_text.Goals as goal
-use Rattle.dom_data.proofs.Outcomes.{on_err}
+use Rattle.dom_data.proofs.ResultLemmas.{on_err}
 
 pub returns-in-Ok : goal.returns-in-Ok
 returns-in-Ok c =
