@@ -4,7 +4,7 @@ use Rattle.std.proofs.lemmas.List.{append-nil, map-append}
 use Rattle.dom_model.specs.Definitions.{hits, head_of, after, Node, Forest, empty, node, Grove, IsForest, rows, occurs, tops, tree_at, entry_in, HasNode, children_of, next_of, parent_of, Content, TreeRow, tree_row, tree_rows, Lies}
 use Rattle.dom_model.proofs.PlainLists.Numbers.{same_or, same, apart}
 use Rattle.dom_model.proofs.Forests.{Totals.IsOnce, Entries.occurs-HasNode, Entries.Lies-entry_in, Indices.child-once, Climbing.hits-first, Climbing.hits-append, TreeOrder.Ordering.Single, TreeOrder.Ordering.single, TreeOrder.Ordering.tree_at-single, TreeOrder.Ordering.Lies-tree_at, TreeOrder.Ordering.after-front}
-use Rattle.dom_clone.specs.{declared.waiting.Waiting.Waiting, Waits.waiting_for}
+use Rattle.dom_clone.specs.{declared.walk_stack.Waiting.Waiting, WalkStack.waiting_from}
 use Rattle.dom_session.specs.Printing.{row_at}
 
 -- a part of the forest: trees that stand beside one another at a depth
@@ -91,7 +91,7 @@ abbrev pub part_if : ℕ → Forest Content → List Part
 part_if d empty = []
 part_if d (node x kids rest) = record { depth = d; trees = node x kids rest } ∷ []
 
-Match-wait : (f : Forest Content) (limit : ℕ) (ws : List (Waiting ℕ)) (ts : List Part) (d above : ℕ) (passed : List ℕ) (k : Forest Content) → Match f limit ws ts → d ≤ limit → Lies (entry_in f) (Some above) k → children_of f above ≡ passed ++ tops k → Match f limit (ws ++ waiting_for (head_of (tops k)) d) (ts ++ part_if d k)
+Match-wait : (f : Forest Content) (limit : ℕ) (ws : List (Waiting ℕ)) (ts : List Part) (d above : ℕ) (passed : List ℕ) (k : Forest Content) → Match f limit ws ts → d ≤ limit → Lies (entry_in f) (Some above) k → children_of f above ≡ passed ++ tops k → Match f limit (ws ++ waiting_from (head_of (tops k)) d) (ts ++ part_if d k)
 Match-wait f limit ws ts d above passed empty m h l e = rw (append-nil ws, append-nil ts) m
 Match-wait f limit ws ts d above passed (node x kids rest) m h l e =
     Match-push f limit ws ts (record { first = x.number; place = d }) (record { depth = d; trees = node x kids rest }) m
@@ -149,7 +149,7 @@ opened : (f : Forest Content) (limit : ℕ) (w : Waiting ℕ) (t : Part) → IsP
 opened f limit w t p = opened_from f limit w t p t.trees refl p.first p.lies p.within
 
 -- one more row is printed, and what stands beside and below it waits
-pub IsPrinting-step : (g : Grove Content) → IsForest g → (all done : List TreeRow) (ws : List (Waiting ℕ)) (w : Waiting ℕ) (r : TreeRow) → IsPrinting g.forest all done (ws ++ w ∷ []) → IfSome (entry_in g.forest w.first) (λ e. r ≡ row_at w.first w.place e.value) → IsPrinting g.forest all (done ++ r ∷ []) ((ws ++ waiting_for (next_of g.forest w.first) w.place) ++ waiting_for (head_of (children_of g.forest w.first)) (w.place + 1))
+pub IsPrinting-step : (g : Grove Content) → IsForest g → (all done : List TreeRow) (ws : List (Waiting ℕ)) (w : Waiting ℕ) (r : TreeRow) → IsPrinting g.forest all done (ws ++ w ∷ []) → IfSome (entry_in g.forest w.first) (λ e. r ≡ row_at w.first w.place e.value) → IsPrinting g.forest all (done ++ r ∷ []) ((ws ++ waiting_from (next_of g.forest w.first) w.place) ++ waiting_from (head_of (children_of g.forest w.first)) (w.place + 1))
 IsPrinting-step g sound all done ws w r i row =
     let f = g.forest in
     let p = Match-pop f (length done) ws w i.parts i.matched in
@@ -162,7 +162,7 @@ IsPrinting-step g sound all done ws w r i row =
     let shallow = p.last.shallow in
     let matched = Match-more f (length done) (length (done ++ r ∷ [])) ws p.others (omega arith) p.matched in
     let beside_it = Match-wait f (length (done ++ r ∷ [])) ws p.others w.place o.above (o.passed ++ w.first ∷ []) o.rest matched (omega arith) o.lies_rest (rw append_assoc o.within) in
-    let below_it = Match-wait f (length (done ++ r ∷ [])) (ws ++ waiting_for (head_of (tops o.rest)) w.place) (p.others ++ part_if w.place o.rest) (w.place + 1) w.first [] o.kids beside_it (omega arith) o.lies_kids (rw o.entry refl) in
+    let below_it = Match-wait f (length (done ++ r ∷ [])) (ws ++ waiting_from (head_of (tops o.rest)) w.place) (p.others ++ part_if w.place o.rest) (w.place + 1) w.first [] o.kids beside_it (omega arith) o.lies_kids (rw o.entry refl) in
     let printed_now : printed p.part.depth p.part.trees ≡ r ∷ (printed (w.place + 1) o.kids ++ printed w.place o.rest) =
     rw (o.are, p.last.level, is, add-one w.place, map-append tree_row (rows (suc w.place) o.kids) (rows w.place o.rest), o.number) refl in
     record {
@@ -195,7 +195,7 @@ top_tree f top o h = from (tree_at-single top f (let k = o top in omega arith))
         record { x = x; kids = kids; parent = parent_of f top; are = t; number = e; entry = subst P e l.0; lies = subst Q e l.1 }
 
 -- after the row of the top, its children wait
-pub IsPrinting-start : (g : Grove Content) → IsForest g → (top : ℕ) → HasNode g.forest top → (r : TreeRow) → IfSome (entry_in g.forest top) (λ e. r ≡ row_at top 0 e.value) → IsPrinting g.forest (tree_rows g.forest top) (r ∷ []) (waiting_for (head_of (children_of g.forest top)) 1)
+pub IsPrinting-start : (g : Grove Content) → IsForest g → (top : ℕ) → HasNode g.forest top → (r : TreeRow) → IfSome (entry_in g.forest top) (λ e. r ≡ row_at top 0 e.value) → IsPrinting g.forest (tree_rows g.forest top) (r ∷ []) (waiting_from (head_of (children_of g.forest top)) 1)
 IsPrinting-start g sound top held r row =
     let f = g.forest in
     let o = top_tree f top sound.once (occurs-HasNode f top held) in

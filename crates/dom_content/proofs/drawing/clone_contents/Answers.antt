@@ -1,6 +1,6 @@
 -- The range is in order, and what its parts say is said of the live range.
 use Rattle.std.proofs.Common.{false, refl, sym, ◌∙◌, subst}
-use Rattle.dom_clone.proofs.Left.{left-same}
+use Rattle.dom_clone.proofs.LeavesAllLemmas.{left-same}
 use Rattle.std.proofs.lemmas.Result.{err_from_is_err_and}
 use Rattle.dom_model.specs.Definitions.{Range, contents_drawn, clone_contents}
 use Rattle.dom_edit.specs.Refusals.{IsRefused}

@@ -2,7 +2,7 @@
 use Rattle.std.proofs.Common.{[], false, arith}
 use Rattle.dom_model.proofs.Forests.Climbing.{hits-first}
 use Rattle.dom_edit.proofs.{LeavesOlderLemmas.newer-two, KeepsNodesLemmas.labels-then}
-use Rattle.dom_clone.proofs.Left.{left-then}
+use Rattle.dom_clone.proofs.LeavesAllLemmas.{left-then}
 use Rattle.dom_content.proofs.{PieceSteps.data-then, LabelsKept.still-held, StaysOf.stays-then, Comings.first-old, Comings.may-put_copy, Comings.copy-unreferred, PathSteps.room-copy, PathSteps.room-inner, PathSteps.inner-is, PathSteps.follows-opened, PathSteps.document-stays}
 use Rattle.dom_content.proofs.partial.open_partial.Goals as goal
 

@@ -7,7 +7,7 @@ use Rattle.dom_content.specs.Paths.{HasRoom}
 use Rattle.dom_content.proofs.{PieceSteps.room-child, PieceSteps.follows-child, OlderLeft.no_moves, StaysOf.stays-then, Comings.first-old, Comings.may-put, Comings.may-put_copy, Comings.copy-unreferred}
 use Rattle.dom_model.proofs.Forests.Climbing.{hits-first}
 use Rattle.dom_edit.proofs.LeavesOlderLemmas.{newer-two}
-use Rattle.dom_clone.proofs.Left.{left-then}
+use Rattle.dom_clone.proofs.LeavesAllLemmas.{left-then}
 use Rattle.dom_content.proofs.pieces.child_into.Goals as goal
 
 pub copy_of-requires-clause-room : goal.copy_of-requires-clause-room

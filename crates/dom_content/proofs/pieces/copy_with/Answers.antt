@@ -3,7 +3,7 @@ use Rattle.std.proofs.Common.{ap, rules}
 use Rattle.std.proofs.lemmas.Result.{on_ok_weaker}
 use Rattle.dom_content.proofs.{PieceSteps.room-copied, PieceSteps.follows-copied, PieceSteps.kinds-copied, PieceSteps.data-copied, PieceSteps.copied-held, OlderLeft.root-part, StaysOf.stays-copied}
 use Rattle.dom_edit.specs.declared.world.World.{World}
-use Rattle.dom_clone.proofs.Left.{left-same, left-covered, left-made, either-way}
+use Rattle.dom_clone.proofs.LeavesAllLemmas.{left-same, left-covered, left-made, either-way}
 use Rattle.dom_content.proofs.pieces.copy_with.Goals as goal
 
 pub make-requires-clause-room : goal.make-requires-clause-room

@@ -1,7 +1,7 @@
 -- The fragment is there beside all others.
 use Rattle.std.proofs.Common.{[], ap, rules, OnOk}
 use Rattle.dom_edit.specs.{declared.world.World.World, Whole.Follows}
-use Rattle.dom_clone.proofs.Left.{left-covered, left-made, either-way}
+use Rattle.dom_clone.proofs.LeavesAllLemmas.{left-covered, left-made, either-way}
 use Rattle.dom_model.specs.declared.Kind.TheVariants.{DocumentFragment}
 use Rattle.dom_model.specs.Definitions.{no_content, made_node, named}
 use Rattle.std.proofs.lemmas.Result.{on_ok_weaker}

@@ -3,7 +3,7 @@ use Rattle.std.proofs.Common.{[], arith}
 use Rattle.std.proofs.lemmas.Result.{on_ok_weaker}
 use Rattle.dom_model.proofs.Forests.Climbing.{hits-first}
 use Rattle.dom_edit.proofs.LeavesOlderLemmas.{newer-two, same-left}
-use Rattle.dom_clone.proofs.Left.{left-then}
+use Rattle.dom_clone.proofs.LeavesAllLemmas.{left-then}
 use Rattle.dom_content.proofs.{PieceSteps.room-units, PieceSteps.follows-units, PieceSteps.still-data, PieceSteps.still-within, LabelsKept.still-held, StaysOf.stays-then, Comings.may-put_part, Comings.part-unreferred}
 use Rattle.dom_content.proofs.pieces.units_into.Goals as goal
 

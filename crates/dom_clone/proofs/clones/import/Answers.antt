@@ -1,6 +1,6 @@
 use Rattle.std.proofs.Common.{tests, rules}
-use Rattle.dom_clone.proofs.Left.{left-same}
-use Rattle.dom_clone.proofs.copying.import.Goals as goal
+use Rattle.dom_clone.proofs.LeavesAllLemmas.{left-same}
+use Rattle.dom_clone.proofs.clones.import.Goals as goal
 
 pub returns-then-is_of_kind-clause-allowed : goal.returns-then-is_of_kind-clause-allowed
 returns-then-is_of_kind-clause-allowed c = search (tests, rules)

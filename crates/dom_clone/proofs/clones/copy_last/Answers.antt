@@ -1,6 +1,6 @@
 use Rattle.std.proofs.Common.{◌≡◌}
-use Rattle.dom_clone.proofs.Under.{copy-may_go, copy-follows, put-whole}
-use Rattle.dom_clone.proofs.copying.copy_last.Goals as goal
+use Rattle.dom_clone.proofs.PutUnderLemmas.{copy-may_go, copy-follows, put-whole}
+use Rattle.dom_clone.proofs.clones.copy_last.Goals as goal
 
 pub copy_node-requires-clause-document_kind : goal.copy_node-requires-clause-document_kind
 copy_node-requires-clause-document_kind c x s =

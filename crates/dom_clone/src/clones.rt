@@ -12,10 +12,10 @@ ghost use Rattle.dom_model.specs.DataAndCopies.Clones.{original, with_copies, cl
 ghost use Rattle.dom_tree.specs.PutConditions.{MayStand};
 ghost use Rattle.dom_edit.specs.Whole.{IsWhole, Follows};
 ghost use Rattle.dom_edit.specs.Refusals.{check_adopt, IsRefused};
-ghost use Rattle.dom_clone.specs.Growing.{made_under};
+ghost use Rattle.dom_clone.specs.Clones.{made_under};
 ghost use Rattle.dom_edit.specs.OlderNodes.{LeavesAll};
 
-use crate::waiting::{Waiting, wait_for};
+use crate::walk_stack::{Waiting, wait_for};
 use dom_edit::{Content, Refusal, World, document_in};
 use dom_kinds::{DomError, Kind};
 use dom_tree::{NodeId, Tree};
@@ -168,16 +168,16 @@ fn copy_under(
     ensures observers { world.new.observers ≡ world.old.observers }
     ensures whole { IsWhole world.new }
 {
-    make_room(world, parent)?;
+    reserve_blocks(world, parent)?;
     copy_last(world, alloc, node, parent)
 }
 
 // Room for blocks of a parent's children, if these are many. The world stays as it is.
-fn make_room(world: &mut World, parent: NodeId) -> Result<(), AllocError>
+fn reserve_blocks(world: &mut World, parent: NodeId) -> Result<(), AllocError>
     requires { HasNode world.old.tree.forest parent }
     ensures { world.new ≡ world.old }
 {
-    world.tree.make_room(parent)
+    world.tree.reserve_blocks(parent)
 }
 
 // The same, with no room for blocks.

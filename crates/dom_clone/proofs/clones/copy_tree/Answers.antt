@@ -1,9 +1,9 @@
 use Rattle.std.proofs.Common.{◌≡◌, ℕ, List, [], ◌∷◌, length, refl, ap, sym, ◌∙◌, subst, arith, unwrap_or}
 use Rattle.dom_model.specs.Definitions.{size, original, with_copies}
 use Rattle.dom_edit.specs.Whole.{Follows}
-use Rattle.dom_clone.specs.declared.waiting.Waiting.{Waiting}
-use Rattle.dom_clone.proofs.{Left.left-then, Left.left-copying, Partial.some-copied, Partial.first-held, Partial.copying-starts, Partial.copied-alone, Partial.copying-ends, Partial.next-held, Partial.parent-held, Partial.may-stand, Partial.more-to_come, Partial.original-held, Partial.next-made, Partial.copying-goes_on}
-use Rattle.dom_clone.proofs.copying.copy_tree.Goals as goal
+use Rattle.dom_clone.specs.declared.walk_stack.Waiting.{Waiting}
+use Rattle.dom_clone.proofs.{LeavesAllLemmas.left-then, LeavesAllLemmas.left-copying, IsCopyingLemmas.some-copied, IsCopyingLemmas.first-held, IsCopyingLemmas.copying-starts, IsCopyingLemmas.copied-alone, IsCopyingLemmas.copying-ends, IsCopyingLemmas.next-held, IsCopyingLemmas.parent-held, IsCopyingLemmas.may-stand, IsCopyingLemmas.more-to_come, IsCopyingLemmas.original-held, IsCopyingLemmas.next-made, IsCopyingLemmas.copying-goes_on}
+use Rattle.dom_clone.proofs.clones.copy_tree.Goals as goal
 
 no_items : (ws : List (Waiting ℕ)) → length ws ≡ 0 → ws ≡ []
 no_items [] e = refl

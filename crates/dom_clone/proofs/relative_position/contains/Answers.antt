@@ -1,6 +1,6 @@
 use Rattle.std.proofs.Common.{sym, ◌∙◌, tests, rules}
-use Rattle.dom_clone.proofs.Positions.{contains-absent}
-use Rattle.dom_clone.proofs.standing.contains.Goals as goal
+use Rattle.dom_clone.proofs.PositionLemmas.{contains-absent}
+use Rattle.dom_clone.proofs.relative_position.contains.Goals as goal
 
 pub returns-else-holds : goal.returns-else-holds
 returns-else-holds c =

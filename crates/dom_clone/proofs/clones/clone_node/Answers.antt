@@ -1,6 +1,6 @@
 use Rattle.std.proofs.Common.{tests, rules}
-use Rattle.dom_clone.proofs.Under.{copies_document-kind}
-use Rattle.dom_clone.proofs.copying.clone_node.Goals as goal
+use Rattle.dom_clone.proofs.PutUnderLemmas.{copies_document-kind}
+use Rattle.dom_clone.proofs.clones.clone_node.Goals as goal
 
 pub copy_tree-requires-clause-document_kind : goal.copy_tree-requires-clause-document_kind
 copy_tree-requires-clause-document_kind c =

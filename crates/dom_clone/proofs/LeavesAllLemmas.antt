@@ -5,8 +5,8 @@ use Rattle.dom_model.proofs.Forests.{EachNode.EachNode-beside, Totals.beside-emp
 use Rattle.dom_model.proofs.Worlds.Owners.{EachNode-each}
 use Rattle.dom_edit.specs.{declared.world.World.World, Whole.CoversAhead, Whole.Follows, Whole.unwatched, OlderNodes.LeavesAll}
 use Rattle.dom_edit.proofs.FollowsLemmas.{keeps-unwatched}
-use Rattle.dom_clone.specs.declared.waiting.Waiting.{Waiting}
-use Rattle.dom_clone.proofs.{Under.follows-same, Partial.IsCopying, Partial.with_trees}
+use Rattle.dom_clone.specs.declared.walk_stack.Waiting.{Waiting}
+use Rattle.dom_clone.proofs.{PutUnderLemmas.follows-same, IsCopyingLemmas.IsCopying, IsCopyingLemmas.with_trees}
 
 -- the numbers of the nodes are given out later than those of a world
 abbrev IsLater : World → Node Content → Type 0

@@ -13,7 +13,7 @@ use Rattle.dom_observe.specs.Watchers.{Watches}
 use Rattle.dom_edit.specs.{declared.world.World.World, Whole.IsWhole, Whole.Keeps, Whole.Follows, Whole.unwatched}
 use Rattle.dom_edit.proofs.{CoversHeldLemmas.covered-kept, FollowsLemmas.follows-then, FollowsLemmas.keeps-unwatched, FollowsLemmas.sound-unwatched, FollowsLemmas.whole-sound}
 use Rattle.dom_observe.proofs.NamesHeldLemmas.{held-kept}
-use Rattle.dom_clone.specs.Growing.{made_under}
+use Rattle.dom_clone.specs.Clones.{made_under}
 
 -- what holds of each node holds of what an entry tells
 pub each-entry : (P : Node Content → Type 0) (q : Option ℕ) (n : ℕ) (f : Forest Content) → EachNode P f → IfSome (entry_under q n f) (λ e. P e.value × (e.value.number ≡ n))

@@ -10,8 +10,8 @@ use Rattle.dom_model.proofs.Worlds.Measured.{entry-beside}
 use Rattle.dom_tree.specs.PutConditions.{MayStand}
 use Rattle.dom_edit.specs.{declared.world.World.World, Whole.IsWhole, Whole.Follows, Whole.unwatched}
 use Rattle.dom_edit.proofs.FollowsLemmas.{follows-then, keeps-unwatched}
-use Rattle.dom_clone.specs.{declared.waiting.Waiting.Waiting, Growing.made_under, Waits.waiting_for}
-use Rattle.dom_clone.proofs.{Under.each-entry, Under.follows-same, Grown.Part, Grown.sizes, Grown.completed, Grown.part_if, Grown.sizes-push, Grown.sizes-wait, Grown.completed-wait, Grown.completed-step, Grown.put-grown}
+use Rattle.dom_clone.specs.{declared.walk_stack.Waiting.Waiting, Clones.made_under, WalkStack.waiting_from}
+use Rattle.dom_clone.proofs.{PutUnderLemmas.each-entry, PutUnderLemmas.follows-same, CompletedLemmas.Part, CompletedLemmas.sizes, CompletedLemmas.completed, CompletedLemmas.part_if, CompletedLemmas.sizes-push, CompletedLemmas.sizes-wait, CompletedLemmas.completed-wait, CompletedLemmas.completed-step, CompletedLemmas.put-grown}
 
 -- trees beside those that were there
 abbrev pub with_trees : Forest Content → ℕ → model.World → model.World
@@ -78,7 +78,7 @@ Match-pop f g (v ∷ ws) w (t ∷ ts) m =
 
 -- trees wait, where there are any
 Match-wait : (f g : Forest Content) (ws : List (Waiting ℕ)) (ts : List Part) (parent above : ℕ) (passed : Option ℕ) (kind : Kind) (k : Forest Content) → Match f g ws ts → Stands (entry_in f) above passed k → KindsFit (Some kind) k → 0 < occurs parent g → HasKind parent kind g →
-    Match f g (ws ++ waiting_for (head_of (tops k)) parent) (ts ++ part_if parent k)
+    Match f g (ws ++ waiting_from (head_of (tops k)) parent) (ts ++ part_if parent k)
 Match-wait f g ws ts parent above passed kind empty m s fit there kinds = rw (append-nil ws, append-nil ts) m
 Match-wait f g ws ts parent above passed kind (node x kids rest) m s fit there kinds =
     Match-push f g ws ts (record { first = x.number; place = parent }) (record { parent = parent; trees = node x kids rest }) m
@@ -189,7 +189,7 @@ module _ (old now : World) (h : IsWhole old) (n d : ℕ) (held : HasNode old.tre
   under : placed_under old.tree.made None (renumbered d (old.tree.made + 1) tree.kids) first_copy ≡ renumbered d old.tree.made (node tree.top tree.kids empty)
   under = elim (same_or old.tree.made old.tree.made) [ same e t ↦ rw t refl | apart ne t ↦ absurd (ne refl) ]
 
-  pub copying-starts : IsWhole now → IsCopying old n d now (waiting_for (head_of (children_of now.tree.forest n)) old.tree.made)
+  pub copying-starts : IsWhole now → IsCopying old n d now (waiting_from (head_of (children_of now.tree.forest n)) old.tree.made)
   copying-starts whole = record {
     copies = first_copy;
     parts = part_if old.tree.made tree.kids;
@@ -386,14 +386,14 @@ module _ (old : World) (h : IsWhole old) (n d : ℕ) (now : World) (ws : List (W
         EachNode-placed_under (λ x. x.number ≡ now.tree.made → x.label.kind ≡ fr.x.label.kind) w.place None (node copy_here empty empty) i.copies
         (λ e. refl, tt, tt) (has_kind-absent now.tree.made fr.x.label.kind i.copies new)
 
-    matched_next : Match old.tree.forest more ((ws ++ waiting_for (head_of (tops fr.rest)) w.place) ++ waiting_for (head_of (tops fr.kids)) now.tree.made) ((popped.others ++ part_if w.place fr.rest) ++ part_if now.tree.made fr.kids)
+    matched_next : Match old.tree.forest more ((ws ++ waiting_from (head_of (tops fr.rest)) w.place) ++ waiting_from (head_of (tops fr.kids)) now.tree.made) ((popped.others ++ part_if w.place fr.rest) ++ part_if now.tree.made fr.kids)
     matched_next =
         let f = old.tree.forest in
         let others = Match-more f i.copies more stay kinds_stay ws popped.others popped.matched in
         let beside_it = Match-wait f more ws popped.others w.place fr.above (Some fr.x.number) fr.kind fr.rest others fr.stands.4 fr.fits.2 (stay w.place fr.parent_there) (kinds_stay w.place fr.kind fr.parent_there fr.parent_kind) in
-        Match-wait f more (ws ++ waiting_for (head_of (tops fr.rest)) w.place) (popped.others ++ part_if w.place fr.rest) now.tree.made fr.x.number None fr.x.label.kind fr.kids beside_it fr.stands.3 fr.fits.1 new_there new_kind
+        Match-wait f more (ws ++ waiting_from (head_of (tops fr.rest)) w.place) (popped.others ++ part_if w.place fr.rest) now.tree.made fr.x.number None fr.x.label.kind fr.kids beside_it fr.stands.3 fr.fits.1 new_there new_kind
 
-    pub copying-goes_on : IsWhole next → IsCopying old n d next ((ws ++ waiting_for (next_of next.tree.forest w.first) w.place) ++ waiting_for (head_of (children_of next.tree.forest w.first)) now.tree.made)
+    pub copying-goes_on : IsWhole next → IsCopying old n d next ((ws ++ waiting_from (next_of next.tree.forest w.first) w.place) ++ waiting_from (head_of (children_of next.tree.forest w.first)) now.tree.made)
     copying-goes_on whole = record {
       copies = more;
       parts = (popped.others ++ part_if w.place fr.rest) ++ part_if now.tree.made fr.kids;

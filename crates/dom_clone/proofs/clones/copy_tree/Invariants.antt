@@ -1,7 +1,7 @@
 use Rattle.std.proofs.Common.{◌≡◌, ◌+◌, ◌-◌, unwrap_or}
 use Rattle.dom_model.specs.Definitions.{size, tree_at}
-use Rattle.dom_clone.proofs.Partial.{IsCopying}
-use Rattle.dom_clone.proofs.copying.copy_tree.Given as goal
+use Rattle.dom_clone.proofs.IsCopyingLemmas.{IsCopying}
+use Rattle.dom_clone.proofs.clones.copy_tree.Given as goal
 
 abbrev pub invariant-loop-next : goal.invariant-loop-next
 invariant-loop-next l = record {

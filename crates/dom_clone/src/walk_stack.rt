@@ -1,7 +1,7 @@
 //! The stack of a walk in tree order.
 
 ghost use Rattle.std.specs.Prelude.{◌≡◌, ◌++◌, OnOk};
-ghost use Rattle.dom_clone.specs.Waits.{waiting_for};
+ghost use Rattle.dom_clone.specs.WalkStack.{waiting_from};
 
 use dom_tree::NodeId;
 use std::alloc::AllocError;
@@ -23,7 +23,7 @@ pub fn wait_for<Place: Copy>(
     first: Option<NodeId>,
     place: Place,
 ) -> Result<(), AllocError>
-    ensures { OnOk result (waiting.new.items ≡ waiting.old.items ++ waiting_for first place) }
+    ensures { OnOk result (waiting.new.items ≡ waiting.old.items ++ waiting_from first place) }
 {
     if let Some(first) = first {
         waiting.push(Waiting { first, place })?;

@@ -1,7 +1,7 @@
 use Rattle.std.proofs.Common.{ap}
 use Rattle.dom_edit.specs.declared.world.World.{World}
-use Rattle.dom_clone.proofs.Left.{left-same, left-covered, left-made, either-way}
-use Rattle.dom_clone.proofs.copying.copy_node.Goals as goal
+use Rattle.dom_clone.proofs.LeavesAllLemmas.{left-same, left-covered, left-made, either-way}
+use Rattle.dom_clone.proofs.clones.copy_node.Goals as goal
 
 pub returns-in_err-label-clause-left : goal.returns-in_err-label-clause-left
 returns-in_err-label-clause-left c = left-same c.args.world.now

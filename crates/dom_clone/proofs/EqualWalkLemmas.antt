@@ -4,7 +4,7 @@ use Rattle.std.proofs.lemmas.{Bool.true≢false, Bool.false≢true, List.append-
 use Rattle.dom_model.specs.Definitions.{among, hits, head_of, after, from_first, is_kind, Forest, empty, node, Grove, IsForest, ancestors, one_at, occurs, tops, numbers, tree_at, entry_in, HasNode, inclusive_descendants, Content, agree, are_equal, is_equal}
 use Rattle.dom_model.proofs.PlainLists.{Numbers.same_or, Numbers.same, Numbers.apart, FromFirst.from-after, FromFirst.from-last}
 use Rattle.dom_model.proofs.Forests.{Totals.IsOnce, Totals.total-tree_at, Entries.occurs-HasNode, Entries.HasNode-occurs, Climbing.hits-ancestors, Climbing.hits-among, TreeOrder.Flattened.hits-numbers, TreeOrder.Stepping.after-inside, Standing.Stands, Standing.Tree, Standing.tree_of}
-use Rattle.dom_clone.specs.Meeting.{Met, met, are_both, are_alike}
+use Rattle.dom_clone.specs.EqualWalks.{Met, met, are_both, are_alike}
 
 abbrev pub all_alike : List Met → List Met → Bool
 all_alike [] [] = true

@@ -1,5 +1,5 @@
 use Rattle.std.proofs.Common.{tests, rules}
-use Rattle.dom_clone.proofs.standing.position.Goals as goal
+use Rattle.dom_clone.proofs.relative_position.position.Goals as goal
 
 pub returns-then-eq : goal.returns-then-eq
 returns-then-eq c = search (tests, rules)
