@@ -10,7 +10,7 @@ use Rattle.dom_model.proofs.RangesAndContents.ContainedChildren.{up_to-place, up
 use Rattle.dom_model.proofs.TokenText.EditsMade.EditsOfInsertions.{get-place}
 use Rattle.dom_edit.specs.InsertionPoints.{IsAmong, from_optional, children_ahead}
 use Rattle.dom_edit.proofs.{IsAmongLemmas.IsAmong-after, IsAmongLemmas.from_optional-head, IsAmongLemmas.next_of-child, InsertionPointLemmas.ahead-on, InsertionPointLemmas.from_successor}
-use Rattle.dom_content.specs.Drawing.{index_behind, index_at}
+use Rattle.dom_content.specs.DrawnParts.{index_behind, index_at}
 use Rattle.dom_model.proofs.Soundness.SoundEditing.{number_is}
 
 from-head : (ns : List ℕ) → from_optional (slice_get ns 0) ns ≡ ns

@@ -10,7 +10,7 @@ use Rattle.dom_edit.specs.{declared.world.World.World, Whole.IsWhole, Whole.Keep
 use Rattle.dom_edit.proofs.{FollowsLemmas.follows-then, FollowsLemmas.keeps-unwatched, InsertLemmas.follows-as}
 use Rattle.dom_data.proofs.IsWholeLemmas.{sound-unwatched}
 use Rattle.dom_ranges.specs.Tables.{range_in}
-use Rattle.dom_content.proofs.Deleted.{range-deleted}
+use Rattle.dom_content.proofs.DeleteContentsLemmas.{range-deleted}
 
 -- the contained nodes whose parent is not contained, in tree order
 abbrev is_top : Forest Content → Range → ℕ → Bool

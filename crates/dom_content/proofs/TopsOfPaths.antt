@@ -7,7 +7,7 @@ use Rattle.dom_model.proofs.Forests.{Climbing.hits-append, Climbing.hits-first, 
 use Rattle.dom_model.proofs.TokenText.Contents.TopsByParts.{tops-by_parts}
 use Rattle.dom_edit.specs.{declared.world.World.World, Insertion.AreThere, Whole.IsWhole, Whole.unwatched}
 use Rattle.dom_data.proofs.IsWholeLemmas.{sound-unwatched}
-use Rattle.dom_content.specs.Drawing.{AreParts}
+use Rattle.dom_content.specs.DrawnParts.{AreParts}
 use Rattle.dom_content.proofs.PathLists.{listed, none-left}
 
 -- a node of the path is there

@@ -3,7 +3,7 @@ use Rattle.std.proofs.Common.{◌≡◌, false, refl}
 use Rattle.dom_edit.specs.{declared.world.World.World, Whole.IsWhole, KeptNodes.KeepsLabels, KeptNodes.KeepsNodes, OlderNodes.LeavesAll}
 use Rattle.dom_data.specs.KeptNumbers.{KeepsNumbers}
 use Rattle.dom_clone.proofs.LeavesAllLemmas.{left-same}
-use Rattle.dom_content.proofs.LabelsKept.{labels-left}
+use Rattle.dom_content.proofs.StillHeldLemmas.{labels-left}
 use Rattle.dom_session.specs.{Stands.Held, Ending.IsKept, Ending.IsLeft}
 
 pub kept_labels : (old new : World) → KeepsLabels old new → IsWhole new → IsKept old new

@@ -1,5 +1,5 @@
 use Rattle.std.proofs.Common.{tests, rules}
-use Rattle.dom_content.proofs.LabelsKept.{labels-none}
+use Rattle.dom_content.proofs.StillHeldLemmas.{labels-none}
 use Rattle.dom_wrap.proofs.Marking.{stand-by_surround}
 use Rattle.dom_wrap.proofs.surrounding.surround.Goals as goal
 
