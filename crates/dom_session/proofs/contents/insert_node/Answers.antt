@@ -3,7 +3,7 @@ use Rattle.std.proofs.lemmas.Bool.Decides.{nat_tests}
 use Rattle.dom_model.specs.Definitions.{entry_in, insert_node, refusal_in, InsertNode}
 use Rattle.dom_ranges.specs.Tables.{range_in}
 use Rattle.dom_edit.specs.Whole.{unwatched}
-use Rattle.dom_wrap.specs.Outcomes.{left_by}
+use Rattle.dom_wrap.specs.Outcomes.{world_after_outcome}
 use Rattle.dom_session.specs.{declared.brief.Brief.TheVariants.Nothing, declared.reply.Reply.TheVariants.Brief, Limiting.numbered}
 use Rattle.dom_session.proofs.{Stepping.step-follows, Stepping.step-refused, ContentsAnswers.answer-insert_node, ContentsAnswers.refused-insert_node, WorldsKept.kept_labels}
 use Rattle.dom_session.proofs.contents.insert_node.Goals as goal
@@ -18,7 +18,7 @@ returns-in-Ok c =
     let held : is_some (entry_in v.tree.forest n) ≡ true = cc in
     let room : nat_lt c.args.numbers (v.tree.made + 1) ≡ false = grind (arith, nat_tests) in
     record {
-      step = step-follows (numbered c.args.numbers) (InsertNode r n) (Brief Nothing) v c.insert_node.new.world (λ w. left_by (insert_node r n w) w) refl
+      step = step-follows (numbered c.args.numbers) (InsertNode r n) (Brief Nothing) v c.insert_node.new.world (λ w. world_after_outcome (insert_node r n w) w) refl
           (λ w shown. answer-insert_node v (numbered c.args.numbers) w shown r n live held room c.in-Ok.ensures.allowed)
           c.in-Ok.ensures.inserted c.insert_node.ensures.whole;
       left = tt;

@@ -2,7 +2,7 @@ use Rattle.std.proofs.Common.{◌≡◌, ◌+◌, ◌*◌, nat_lt, true, false, 
 use Rattle.dom_model.specs.Definitions.{entry_in, size, surround, check_whole_surround, SurroundContents}
 use Rattle.dom_ranges.specs.Tables.{range_in}
 use Rattle.dom_edit.specs.Whole.{unwatched}
-use Rattle.dom_wrap.specs.Outcomes.{left_by}
+use Rattle.dom_wrap.specs.Outcomes.{world_after_outcome}
 use Rattle.dom_session.specs.{declared.brief.Brief.TheVariants.Nothing, declared.reply.Reply.TheVariants.Brief, Limiting.numbered}
 use Rattle.dom_session.proofs.{Stepping.step-follows, Stepping.step-refused, ContentsAnswers.room-surround, ContentsAnswers.answer-surround, ContentsAnswers.refused-surround, WorldsKept.kept_labels}
 use Rattle.dom_session.proofs.contents.surround_contents.Goals as goal
@@ -23,7 +23,7 @@ returns-in-Ok c =
     let held : is_some (entry_in v.tree.forest n) ≡ true = cc in
     let room : nat_lt c.args.numbers (v.tree.made + (2 * size v.tree.forest + 8)) ≡ false = cc in
     record {
-      step = step-follows (numbered c.args.numbers) (SurroundContents r n) (Brief Nothing) v c.surround.new.world (λ w. left_by (surround r n w) w) refl
+      step = step-follows (numbered c.args.numbers) (SurroundContents r n) (Brief Nothing) v c.surround.new.world (λ w. world_after_outcome (surround r n w) w) refl
           (λ w shown. answer-surround v (numbered c.args.numbers) w shown r n live held room c.in-Ok.ensures.allowed)
           c.in-Ok.ensures.surrounded c.surround.ensures.whole;
       left = tt;
