@@ -1,8 +1,8 @@
 -- What is left of a slice laid over an array, a part at a time.
 use Rattle.std.proofs.Common.{arith, ◌≡◌, ◌<◌, ◌≤◌, ◌+◌, ℕ, List, [], ◌∷◌, ◌++◌, length, take, drop, slice_set, slice_index_or, sym, ap, ◌∙◌}
 use Rattle.std.proofs.lemmas.List.{drop_more, length-set}
-use Rattle.dom_session.specs.Links.{laid_over}
-use Rattle.dom_session.proofs.Laying.{laid_over-set, laid_over-all}
+use Rattle.dom_session.specs.Neighbours.{laid_over}
+use Rattle.dom_session.proofs.LaidOverLemmas.{laid_over-set, laid_over-all}
 
 pub next-left : {X : Type 0} (xs : List X) (i : ℕ) (x : X) → x ≡ slice_index_or xs i x → i < length xs → drop i xs ≡ x ∷ drop (i + 1) xs
 next-left xs i x is lt = drop_more xs i x lt ∙ ap (λ y. y ∷ drop (i + 1) xs) (sym is)

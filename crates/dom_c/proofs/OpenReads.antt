@@ -2,8 +2,8 @@
 use Rattle.std.proofs.Common.{◌≡◌, ℕ, Bool, true, false, List, length, refl, sym, ap, subst, ◌∙◌, Option, Some, None, Result, Err}
 use Rattle.dom_model.specs.declared.OwnError.{OwnError}
 use Rattle.dom_model.specs.Definitions.{Entry, children_in, Node, Forest, entry_in, children_of, Content, World}
-use Rattle.dom_session.specs.Links.{read_where, count_in, laid_over}
-use Rattle.dom_session.proofs.Laying.{laid_over-absent}
+use Rattle.dom_session.specs.Neighbours.{read_where, child_count_in, laid_over}
+use Rattle.dom_session.proofs.LaidOverLemmas.{laid_over-absent}
 use Rattle.dom_wire.specs.Sessions.{StandsFor, held_world}
 use Rattle.dom_c.specs.{Statuses.status_of_own, Nearby.IsReadOrEnded, Nearby.ReadsKept, Nearby.children_over, Nearby.told_as, Nearby.written, Nearby.status_of_read, Nearby.status_of_read_at_end, declared.kept.Kept.Kept}
 
@@ -24,5 +24,5 @@ module _ (before after : List ℕ) (e : OwnError) where
   as-before None count over none is = is ∙ sym (laid_over-absent {T = Node Content} None before refl)
   as-before (Some x) count over none is = absurd (cc none)
 
-  pub refused-copies : (f : Forest Content) (n : ℕ) → Err e ≡ count_in f n → after ≡ laid_over (children_of f n) before → after ≡ written (children_over n before f) before
+  pub refused-copies : (f : Forest Content) (n : ℕ) → Err e ≡ child_count_in f n → after ≡ laid_over (children_of f n) before → after ≡ written (children_over n before f) before
   refused-copies f n none is = as-before (entry_in f n) (length (children_of f n)) (λ _. laid_over (children_of f n) before) none is

@@ -4,7 +4,7 @@ use Rattle.dom_model.specs.declared.OwnError.{OwnError}
 use Rattle.dom_model.specs.Forests.Attributes.{Attribute}
 use Rattle.dom_model.specs.Forests.Forest.{Forest}
 use Rattle.dom_model.specs.Worlds.World.{Content, World}
-use Rattle.dom_session.specs.Lending.{lent_as, lent_whole, label_in, data_in, attribute_in}
+use Rattle.dom_session.specs.BorrowedData.{lent_as, lent_whole, label_of_node, data_in, attribute_of_node}
 use Rattle.dom_wire.specs.Sessions.{StandsFor, held_world}
 use Rattle.dom_c.specs.Statuses.{status_of_own, not_there, has_ended, closed}
 use Rattle.dom_c.specs.Reading.{status_found, or_before}
@@ -14,16 +14,16 @@ use Rattle.dom_c.specs.declared.handle.Handle.{Handle}
 
 -- a part of a node's name
 abbrev pub name_told : ℕ → ℕ → Forest Content → Result (Option (List ℕ)) OwnError
-name_told n part f = lent_whole (name_part part) (label_in f n)
+name_told n part f = lent_whole (name_part part) (label_of_node f n)
 
 abbrev pub data_told : ℕ → Forest Content → Result (Option (List ℕ)) OwnError
 data_told n f = data_in f n
 
 abbrev pub attribute_name_told : ℕ → ℕ → Forest Content → Result (Option (List ℕ)) OwnError
-attribute_name_told n index f = lent_as (λ (a : Attribute). a.name) (attribute_in index f n)
+attribute_name_told n index f = lent_as (λ (a : Attribute). a.name) (attribute_of_node index f n)
 
 abbrev pub attribute_value_told : ℕ → ℕ → Forest Content → Result (Option (List ℕ)) OwnError
-attribute_value_told n index f = lent_as (λ (a : Attribute). a.value) (attribute_in index f n)
+attribute_value_told n index f = lent_as (λ (a : Attribute). a.value) (attribute_of_node index f n)
 
 -- the status of what was looked for: it is lent, or not there, or there is no such node
 abbrev pub status_of_lent : {A : Type 0} → Result (Option A) OwnError → ℕ

@@ -7,14 +7,14 @@ use Rattle.dom_model.specs.Commands.Table.{whole_table}
 use Rattle.dom_model.specs.Commands.Line.{command_within}
 use Rattle.dom_model.specs.Commands.Output.{step_of}
 use Rattle.dom_model.specs.Commands.Printed.{reply_line}
-use Rattle.dom_wire.specs.Sessions.{Held, StandsFor, reply_view}
+use Rattle.dom_wire.specs.Sessions.{SessionView, StandsFor, reply_view}
 use Rattle.dom_c.specs.Statuses.{out_of_memory, closed, not_there}
 use Rattle.dom_c.specs.Answers.{Ends}
 use Rattle.dom_c.specs.declared.kept.Kept.{Kept}
 use Rattle.dom_c.specs.declared.handle.Handle.{Handle}
 
 -- the step of a line, as the server takes it
-abbrev pub step_in : Held → ℕ → List ℕ → World → Step
+abbrev pub step_in : SessionView → ℕ → List ℕ → World → Step
 step_in s limit line w = step_of s.bounds (command_within whole_table limit line) w
 
 abbrev pub step_for_line : List ℕ → Kept → Result (World → Step) ℕ
@@ -50,7 +50,7 @@ pub record AnswersLine (old new : Handle) (line : List ℕ) (status : ℕ) : Typ
   pub printed : IsPrintedIn new.slot.kept
 
 -- the reply to a line is the one of the step, and the session took it
-pub record IsReply (reply : Reply) (old new : Held) (step : World → Step) : Type 0 where
+pub record IsReply (reply : Reply) (old new : SessionView) (step : World → Step) : Type 0 where
   pub reply_is : (w : World) → StandsFor old w → reply ≡ (step w).reply
   pub world_is : (w : World) → StandsFor old w → StandsFor new (step w).world
 

@@ -4,8 +4,8 @@ use Rattle.dom_model.specs.declared.OwnError.{OwnError}
 use Rattle.dom_model.specs.Forests.Kinds.{number_of_kind}
 use Rattle.dom_model.specs.Forests.Forest.{Forest, children_of}
 use Rattle.dom_model.specs.Worlds.World.{Content, World}
-use Rattle.dom_session.specs.declared.links.Links.{Links}
-use Rattle.dom_session.specs.Links.{links_in, first_child_in, last_child_in, child_in, count_in, laid_over}
+use Rattle.dom_session.specs.declared.neighbours.Neighbours.{Neighbours}
+use Rattle.dom_session.specs.Neighbours.{links_in, first_child_in, last_child_in, child_in, child_count_in, laid_over}
 use Rattle.dom_wire.specs.Sessions.{StandsFor, held_world}
 use Rattle.dom_c.specs.Statuses.{status_of_own, has_ended, closed}
 use Rattle.dom_c.specs.Told.{number_or_null}
@@ -18,7 +18,7 @@ abbrev pub told_as : {A B : Type 0} → (A → B) → Result A OwnError → Resu
 told_as tell (Ok a) = Ok (tell a)
 told_as tell (Err e) = Err e
 
-abbrev pub node_links : Links → NodeLinks
+abbrev pub node_links : Neighbours → NodeLinks
 node_links l = record {
   kind = number_of_kind l.kind;
   document = l.document;
@@ -44,11 +44,11 @@ abbrev pub child_told : ℕ → ℕ → Forest Content → Result ℕ OwnError
 child_told n index f = told_as number_or_null (child_in index f n)
 
 abbrev pub count_told : ℕ → Forest Content → Result ℕ OwnError
-count_told n f = count_in f n
+count_told n f = child_count_in f n
 
 -- the numbers of the children over the front of what was there
 abbrev pub children_over : ℕ → List ℕ → Forest Content → Result (List ℕ) OwnError
-children_over n before f = told_as (λ _. laid_over (children_of f n) before) (count_in f n)
+children_over n before f = told_as (λ _. laid_over (children_of f n) before) (child_count_in f n)
 
 -- the status of what was read, and what is written of it
 abbrev pub status_of_read : {A : Type 0} → Result A OwnError → ℕ

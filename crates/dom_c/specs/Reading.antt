@@ -1,7 +1,7 @@
 -- What is read of the last answer: its text, and its parts by their index.
 use Rattle.std.specs.Prelude.{◌≡◌, ℕ, Bool, true, false, if◌then◌else◌, List, length, slice_get, Option, Some, None, option_map, option_and_then}
 use Rattle.dom_model.specs.Commands.Reply.{Answer, Numbers, Units, MaybeUnits, Names, Rows, Records, Notified}
-use Rattle.dom_session.specs.Links.{laid_over}
+use Rattle.dom_session.specs.Neighbours.{laid_over}
 use Rattle.dom_c.specs.Statuses.{out_of_memory, closed, not_there}
 use Rattle.dom_c.specs.Told.{last_of}
 use Rattle.dom_c.specs.declared.kept.Kept.{Kept}

@@ -18,7 +18,7 @@ use crate::status::{
     status_of, status_of_brief,
 };
 use dom_session::{Brief, Editing, IteratorId, Making, Move, NodeId, Reading, Units, WalkerId};
-use dom_wire::{Command, Ended, Reply};
+use dom_wire::{Command, OutOfMemory, Reply};
 
 impl Kept {
     // Stores a reply, and returns its status.
@@ -59,7 +59,7 @@ impl Kept {
         }
         match self.session.apply(command) {
             Ok(reply) => self.keep(reply),
-            Err(Ended) => self.end(),
+            Err(OutOfMemory) => self.end(),
         }
     }
 
@@ -72,7 +72,7 @@ impl Kept {
         }
         match self.session.make(command) {
             Ok(reply) => self.note(reply),
-            Err(Ended) => self.end(),
+            Err(OutOfMemory) => self.end(),
         }
     }
 
@@ -86,7 +86,7 @@ impl Kept {
         }
         match self.session.create_element(document, name) {
             Ok(reply) => self.note(reply),
-            Err(Ended) => self.end(),
+            Err(OutOfMemory) => self.end(),
         }
     }
 
@@ -100,7 +100,7 @@ impl Kept {
         }
         match self.session.create_text(document, text) {
             Ok(reply) => self.note(reply),
-            Err(Ended) => self.end(),
+            Err(OutOfMemory) => self.end(),
         }
     }
 
@@ -114,7 +114,7 @@ impl Kept {
         }
         match self.session.edit(command) {
             Ok(reply) => self.note(reply),
-            Err(Ended) => self.end(),
+            Err(OutOfMemory) => self.end(),
         }
     }
 
@@ -127,7 +127,7 @@ impl Kept {
         }
         match self.session.next_node(iterator) {
             Ok(reply) => self.note(reply),
-            Err(Ended) => self.end(),
+            Err(OutOfMemory) => self.end(),
         }
     }
 
@@ -140,7 +140,7 @@ impl Kept {
         }
         match self.session.previous_node(iterator) {
             Ok(reply) => self.note(reply),
-            Err(Ended) => self.end(),
+            Err(OutOfMemory) => self.end(),
         }
     }
 
@@ -153,7 +153,7 @@ impl Kept {
         }
         match self.session.walk(walker, direction) {
             Ok(reply) => self.note(reply),
-            Err(Ended) => self.end(),
+            Err(OutOfMemory) => self.end(),
         }
     }
 

@@ -3,7 +3,7 @@
 
 ghost use Rattle.std.specs.Prelude.{◌≡◌};
 ghost use Rattle.dom_model.specs.Worlds.World.{World};
-ghost use Rattle.dom_session.specs.Lending.{lent_as};
+ghost use Rattle.dom_session.specs.BorrowedData.{lent_as};
 ghost use Rattle.dom_wire.specs.Sessions.{StandsFor, held_world};
 ghost use Rattle.dom_c.specs.Holding.{LendsForest, name_told, data_told, attribute_name_told, attribute_value_told};
 

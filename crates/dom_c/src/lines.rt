@@ -12,7 +12,7 @@ use crate::handle::Handle;
 use crate::kept::Kept;
 use crate::status::{HP_CLOSED, HP_NOT_THERE, HP_OK, HP_OUT_OF_MEMORY, status_of};
 use dom_wire::{
-    Brief, Command, Ended, OwnError, ReadError, Reply, Session, read_line, write_reply,
+    Brief, Command, OutOfMemory, OwnError, ReadError, Reply, Session, read_line, write_reply,
 };
 use std::alloc::{AllocError, Global};
 
@@ -43,7 +43,7 @@ fn reply_to(
     match read_within(alloc, limit, line) {
         Ok(command) => match session.apply(command) {
             Ok(reply) => Ok(reply),
-            Err(Ended) => Err(AllocError),
+            Err(OutOfMemory) => Err(AllocError),
         },
         Err(ReadError::Own(error)) => Ok(Reply::Brief(Brief::Own(error))),
         Err(ReadError::Memory) => Err(AllocError),

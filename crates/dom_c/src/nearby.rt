@@ -11,7 +11,7 @@ use crate::handle::Handle;
 use crate::kept::Kept;
 use crate::placing::{kind_number, node_number};
 use crate::status::{HP_CLOSED, HP_ENDED, HP_OK, status_of_own};
-use dom_session::{Links, NodeId};
+use dom_session::{Neighbours, NodeId};
 use dom_wire::OwnError;
 
 /// A node: the standard's number of its kind (`nodeType`), its node document, its parent, siblings and first and last child, or
@@ -31,7 +31,7 @@ pub struct NodeLinks {
 }
 
 // Returns the neighbours of a node, as C reads them.
-fn node_links(links: Links) -> NodeLinks
+fn node_links(links: Neighbours) -> NodeLinks
     ensures { result ≡ node_links links }
 {
     NodeLinks {

@@ -3,7 +3,7 @@
 ghost use Rattle.std.specs.Prelude.{◌≡◌, List, ℕ, Option, length, option_map, option_and_then, slice_get, string_bytes};
 ghost use Rattle.dom_wire.specs.Sessions.{answer_view};
 ghost use Rattle.dom_c.specs.Told.{last_of};
-ghost use Rattle.dom_session.specs.Links.{laid_over};
+ghost use Rattle.dom_session.specs.Neighbours.{laid_over};
 ghost use Rattle.dom_c.specs.Reading.{look_up_status, looked_up, or_before, laid_or_before, count_in, numbers_in, listed_number};
 
 use crate::handle::Handle;

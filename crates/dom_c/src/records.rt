@@ -4,7 +4,7 @@ ghost use Rattle.std.specs.Prelude.{◌≡◌, List, ℕ, Option, length, map, s
 ghost use Rattle.dom_model.specs.MutationObservers.Record.{Record as PlainRecord};
 ghost use Rattle.dom_wire.specs.Sessions.{answer_view};
 ghost use Rattle.dom_c.specs.Told.{last_of};
-ghost use Rattle.dom_session.specs.Links.{laid_over};
+ghost use Rattle.dom_session.specs.Neighbours.{laid_over};
 ghost use Rattle.dom_c.specs.Reading.{look_up_status, looked_up, or_before, laid_or_before};
 ghost use Rattle.dom_c.specs.Records.{records_in, record_in, type_number, record_told, record_at, records_at, added_at, removed_at, record_name_at, old_value_at};
 

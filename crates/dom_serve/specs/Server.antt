@@ -12,7 +12,7 @@ use Rattle.dom_model.specs.Commands.Table.{whole_table}
 use Rattle.dom_model.specs.Commands.Line.{command_of}
 use Rattle.dom_model.specs.Commands.Printed.{reply_line, out_of_memory_line}
 use Rattle.dom_model.specs.Commands.Output.{joined, due, whole_lines, last_piece, lines_of, step_of, world_after}
-use Rattle.dom_wire.specs.Sessions.{Held, StandsFor}
+use Rattle.dom_wire.specs.Sessions.{SessionView, StandsFor}
 use Rattle.dom_serve.specs.declared.fault.Fault.{Fault}
 use Rattle.dom_serve.specs.declared.fault.Fault.TheVariants.{Read, Write, Memory, InputTooLong}
 use Rattle.dom_serve.specs.declared.server.Server.{Server}
@@ -31,12 +31,12 @@ abbrev pub held_step : Bounds → List ℕ → Bool → World → Step
 held_step b kept too_long w = step_of b (held_command kept too_long) w
 
 -- the session took the step, and this is its reply
-pub record Takes (s : Step) (r : Reply) (new : Held) : Type 0 where
+pub record Takes (s : Step) (r : Reply) (new : SessionView) : Type 0 where
   pub reply_is : r ≡ s.reply
   pub world_is : StandsFor new s.world
 
 -- the session took the step, and the text is its reply
-pub record Prints (s : Step) (text : List ℕ) (new : Held) : Type 0 where
+pub record Prints (s : Step) (text : List ℕ) (new : SessionView) : Type 0 where
   pub text_is : text ≡ reply_line s.reply
   pub world_is : StandsFor new s.world
 
@@ -48,7 +48,7 @@ Fails s taken taken' Memory = Appends taken taken' out_of_memory_line
 Fails s taken taken' InputTooLong = ⊥
 
 -- the session took the step and its reply was written, or that failed
-abbrev pub Answers : {T : Type 0} → Step → Held → Option (List ℕ) → Option (List ℕ) → Result T Fault → Type 0
+abbrev pub Answers : {T : Type 0} → Step → SessionView → Option (List ℕ) → Option (List ℕ) → Result T Fault → Type 0
 Answers s new taken taken' (Ok _) = StandsFor new s.world × Appends taken taken' (reply_line s.reply)
 Answers s new taken taken' (Err fault) = Fails s taken taken' fault
 

@@ -14,7 +14,7 @@ use crate::fault::Fault;
 use crate::streams::{Failed, Sink};
 use crate::writing::{write_line, write_out_of_memory};
 use dom_wire::{
-    Brief, Command, Ended, OwnError, ReadError, Reply, Session, read_line, write_reply,
+    Brief, Command, OutOfMemory, OwnError, ReadError, Reply, Session, read_line, write_reply,
 };
 use std::alloc::{AllocError, Global};
 
@@ -42,7 +42,7 @@ fn reply(
     match command(alloc, kept, too_long) {
         Ok(command) => match session.apply(command) {
             Ok(reply) => Ok(reply),
-            Err(Ended) => Err(AllocError),
+            Err(OutOfMemory) => Err(AllocError),
         },
         Err(ReadError::Own(error)) => Ok(Reply::Brief(Brief::Own(error))),
         Err(ReadError::Memory) => Err(AllocError),

@@ -10,7 +10,7 @@ use Rattle.dom_ranges.specs.Tables.{range_in}
 use Rattle.dom_edit.specs.{declared.world.World.World, Whole.IsWhole, Whole.Keeps, Whole.Shows, Whole.unwatched}
 use Rattle.dom_edit.proofs.RemoveLemmas.{sound-unwatched}
 use Rattle.dom_wrap.specs.Outcomes.{world_after_outcome}
-use Rattle.dom_session.proofs.{Stepping.guarded-none, TreeEdits.not-none, NodeData.guarded-past_node, NodeData.guarded-past_room, Unfelt.Beside, Unfelt.beside, Unfelt.insert_node-refusal, Unfelt.surround-refusal}
+use Rattle.dom_session.proofs.{GuardedLemmas.guarded-none, TreeEdits.not-none, NodeData.guarded-past_node, NodeData.guarded-past_room, UnobservedLemmas.Beside, UnobservedLemmas.beside, UnobservedLemmas.insert_node-refusal, UnobservedLemmas.surround-refusal}
 
 -- Numbers that are left.
 

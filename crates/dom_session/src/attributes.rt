@@ -8,12 +8,12 @@ ghost use Rattle.dom_model.specs.Commands.Command.{SetAttribute, GetAttribute, H
 ghost use Rattle.dom_model.specs.Commands.Guards.{Bounds};
 ghost use Rattle.dom_edit.specs.Whole.{IsShown};
 ghost use Rattle.dom_session.specs.Views.{attributes_view};
-ghost use Rattle.dom_session.specs.Stands.{IsStep, Tells};
-ghost use Rattle.dom_session.specs.Ending.{IsKept};
+ghost use Rattle.dom_session.specs.SessionViews.{IsStep, RepliesTo};
+ghost use Rattle.dom_session.specs.OutOfMemory.{KeepsWholeWorld};
 
 use crate::brief::Brief;
 use crate::command::Attributes;
-use crate::refusing::kind_refusal;
+use crate::refusals::kind_refusal;
 use crate::reply::{Answer, Reply};
 use dom_edit::{Content, World};
 use dom_kinds::{DomError, Kind, is_attribute_name};
@@ -32,7 +32,7 @@ pub(crate) fn set_attribute(
     requires shown { IsShown world.old }
     ensures step { IfOk result (λ reply. (b : Bounds) →
         IsStep world.old world.new b (SetAttribute element (string_bytes name) value) reply) }
-    ensures left { OnErr result (IsKept world.old world.new) }
+    ensures left { OnErr result (KeepsWholeWorld world.old world.new) }
 {
     if let Some(reply) = kind_refusal(world, element, Kind::Element) {
         return Ok(reply);
@@ -100,7 +100,7 @@ fn has_in(tree: &Tree<Content>, element: NodeId, name: &str) -> bool
 pub(crate) fn has_attribute(world: &World, element: NodeId, name: &str) -> Reply
     ensures step { (b : Bounds) →
         IsStep world.now world.now b (HasAttribute element name.now) result }
-    ensures own { Tells world.now (HasAttribute element name.now) result }
+    ensures own { RepliesTo world.now (HasAttribute element name.now) result }
 {
     if let Some(reply) = kind_refusal(world, element, Kind::Element) {
         return reply;
@@ -117,7 +117,7 @@ pub(crate) fn remove_attribute(
     requires shown { IsShown world.old }
     ensures step { IfOk result (λ reply. (b : Bounds) →
         IsStep world.old world.new b (RemoveAttribute element name.now) reply) }
-    ensures left { OnErr result (IsKept world.old world.new) }
+    ensures left { OnErr result (KeepsWholeWorld world.old world.new) }
 {
     if let Some(reply) = kind_refusal(world, element, Kind::Element) {
         return Ok(reply);
@@ -137,7 +137,7 @@ pub(crate) fn toggle_attribute(
     requires shown { IsShown world.old }
     ensures step { IfOk result (λ reply. (b : Bounds) →
         IsStep world.old world.new b (ToggleAttribute element (string_bytes name) force) reply) }
-    ensures left { OnErr result (IsKept world.old world.new) }
+    ensures left { OnErr result (KeepsWholeWorld world.old world.new) }
 {
     if let Some(reply) = kind_refusal(world, element, Kind::Element) {
         return Ok(reply);
@@ -189,7 +189,7 @@ pub(crate) fn change_attributes(
     requires shown { IsShown world.old }
     ensures step { IfOk result (λ reply. (b : Bounds) →
         IsStep world.old world.new b (attributes_view command) reply) }
-    ensures left { OnErr result (IsKept world.old world.new) }
+    ensures left { OnErr result (KeepsWholeWorld world.old world.new) }
 {
     match command {
         Attributes::SetAttribute(element, name, value) => set_attribute(

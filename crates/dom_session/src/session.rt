@@ -8,25 +8,25 @@ ghost use Rattle.dom_model.specs.Commands.Reply.{is_refusal};
 ghost use Rattle.dom_model.specs.Commands.Answer.{answer};
 ghost use Rattle.dom_session.specs.Brief.{reply_of};
 ghost use Rattle.dom_session.specs.Views.{command_view, making_view, editing_view, reading_view, reply_view};
-ghost use Rattle.dom_session.specs.Stands.{StandsFor, IsAnswered, held_world};
-ghost use Rattle.dom_session.specs.Ending.{IsLeft};
-ghost use Rattle.dom_session.specs.Bounding.{bounds_of};
+ghost use Rattle.dom_session.specs.SessionViews.{StandsFor, IsAnswered, held_world};
+ghost use Rattle.dom_session.specs.OutOfMemory.{IsLeft};
+ghost use Rattle.dom_session.specs.SessionBounds.{bounds_of};
 ghost use Rattle.dom_session.specs.InUse.{in_use_of, in_use_in};
-ghost use Rattle.dom_session.specs.Links.{links_in, first_child_in, last_child_in, child_in, count_in, laid_over};
-ghost use Rattle.dom_session.specs.Lending.{lent_as, lent_whole, label_in, data_in, attribute_in};
+ghost use Rattle.dom_session.specs.Neighbours.{links_in, first_child_in, last_child_in, child_in, child_count_in, laid_over};
+ghost use Rattle.dom_session.specs.BorrowedData.{lent_as, lent_whole, label_of_node, data_in, attribute_of_node};
 ghost use Rattle.dom_attrs.specs.Entries.{attribute_at};
 
-use crate::answering::answered;
 use crate::attributes::has_attribute;
 use crate::brief::Brief;
 use crate::command::{Command, Editing, Making, Reading};
-use crate::editing::edit_tree;
+use crate::dispatch::answered;
 use crate::in_use::{self, Counts};
-use crate::links::{self, Links};
-use crate::making::{create_element, create_text, make_nodes};
+use crate::neighbours::{self, Neighbours};
+use crate::node_creation::{create_element, create_text, make_nodes};
 use crate::reply::Reply;
-use crate::traversing::{next_node, previous_node, walk};
-use crate::{lending, reading};
+use crate::traversal::{next_node, previous_node, walk};
+use crate::tree_edits::edit_tree;
+use crate::{borrowed_data, read_only};
 use dom_edit::World;
 use dom_kinds::Label;
 use dom_model::{Move, OwnError};
@@ -45,7 +45,7 @@ pub struct Limits {
 
 /// Out of memory: the session answers no further command.
 #[derive(Clone, Copy, Debug, PartialEq, Eq)]
-pub struct Ended;
+pub struct OutOfMemory;
 
 /// The world of one client, and how many objects it may make.
 #[derive(Drop)]
@@ -57,16 +57,16 @@ pub struct Session {
 }
 
 impl Model for Session {
-    ghost use Rattle.dom_session.specs.Stands.{Held};
+    ghost use Rattle.dom_session.specs.SessionViews.{SessionView};
     ghost use Rattle.std.specs.Coded.{codes};
     ghost use Rattle.dom_model.specs.Forests.ForestCode.{grove_code};
     ghost use Rattle.dom_session.specs.Codes.{content_code};
 
-    ghost Value = { Held };
+    ghost Value = { SessionView };
 
     ghost coded = { Prim.hlevel (codes, grove_code content_code) };
 
-    ghost use Rattle.dom_session.specs.Bounding.{bounds_of};
+    ghost use Rattle.dom_session.specs.SessionBounds.{bounds_of};
 
     ghost view = { λ s. record { world = s.world; bounds = bounds_of s.limits; ended = s.ended } };
 
@@ -95,10 +95,10 @@ impl Session {
         })
     }
 
-    /// Applies a command, and returns its reply. A refused growth ends the session: that call and every later one return `Ended`.
+    /// Applies a command, and returns its reply. A refused growth ends the session: that call and every later one return `OutOfMemory`.
     ///
     /// The session still holds its nodes, and they can be read, each with its label.
-    pub fn apply(&mut self, command: Command) -> Result<Reply, Ended>
+    pub fn apply(&mut self, command: Command) -> Result<Reply, OutOfMemory>
         // For every world that the session stands for, the reply is that world's answer, and the session stands for its next world.
         ensures answers { IfOk result
             (λ reply. (w : PlainWorld) → StandsFor self.old w →
@@ -112,19 +112,19 @@ impl Session {
         ensures bounds { self.new.bounds ≡ self.old.bounds }
     {
         if self.ended {
-            return Err(Ended);
+            return Err(OutOfMemory);
         }
         match answered(&mut self.world, self.limits.numbers, self.alloc, command) {
             Ok(reply) => Ok(reply),
             Err(_) => {
                 self.ended = true;
-                Err(Ended)
+                Err(OutOfMemory)
             }
         }
     }
 
     /// Applies a command that makes a node as `apply` does, with fewer arguments to pass.
-    pub fn make(&mut self, command: Making) -> Result<Brief, Ended>
+    pub fn make(&mut self, command: Making) -> Result<Brief, OutOfMemory>
         ensures answers { IfOk result
             (λ reply. (w : PlainWorld) → StandsFor self.old w →
             IsAnswered (reply_of reply) w self.old self.new (making_view command)) }
@@ -137,17 +137,17 @@ impl Session {
         ensures bounds { self.new.bounds ≡ self.old.bounds }
     {
         if self.ended {
-            return Err(Ended);
+            return Err(OutOfMemory);
         }
         let Ok(reply) = make_nodes(&mut self.world, self.limits.numbers, self.alloc, command) else {
             self.ended = true;
-            return Err(Ended);
+            return Err(OutOfMemory);
         };
         Ok(reply)
     }
 
     /// Makes an Element as `apply` does, from a borrowed name.
-    pub fn create_element(&mut self, document: NodeId, name: &str) -> Result<Brief, Ended>
+    pub fn create_element(&mut self, document: NodeId, name: &str) -> Result<Brief, OutOfMemory>
         ensures answers { IfOk result
             (λ reply. (w : PlainWorld) → StandsFor self.old w →
             IsAnswered (reply_of reply) w self.old self.new (CreateElement document name.now)) }
@@ -160,7 +160,7 @@ impl Session {
         ensures bounds { self.new.bounds ≡ self.old.bounds }
     {
         if self.ended {
-            return Err(Ended);
+            return Err(OutOfMemory);
         }
         let Ok(reply) = create_element(
             &mut self.world,
@@ -170,13 +170,13 @@ impl Session {
             name,
         ) else {
             self.ended = true;
-            return Err(Ended);
+            return Err(OutOfMemory);
         };
         Ok(reply)
     }
 
     /// Makes a Text as `apply` does, with fewer arguments to pass.
-    pub fn create_text(&mut self, document: NodeId, text: Units) -> Result<Brief, Ended>
+    pub fn create_text(&mut self, document: NodeId, text: Units) -> Result<Brief, OutOfMemory>
         ensures answers { IfOk result
             (λ reply. (w : PlainWorld) → StandsFor self.old w →
             IsAnswered (reply_of reply) w self.old self.new (CreateText document text)) }
@@ -189,7 +189,7 @@ impl Session {
         ensures bounds { self.new.bounds ≡ self.old.bounds }
     {
         if self.ended {
-            return Err(Ended);
+            return Err(OutOfMemory);
         }
         let Ok(reply) = create_text(
             &mut self.world,
@@ -199,14 +199,14 @@ impl Session {
             text,
         ) else {
             self.ended = true;
-            return Err(Ended);
+            return Err(OutOfMemory);
         };
         Ok(reply)
     }
 
     /// Applies an edit of the tree as `apply` does, with fewer arguments to pass.
     #[inline(always)]
-    pub fn edit(&mut self, command: Editing) -> Result<Brief, Ended>
+    pub fn edit(&mut self, command: Editing) -> Result<Brief, OutOfMemory>
         ensures answers { IfOk result
             (λ reply. (w : PlainWorld) → StandsFor self.old w →
             IsAnswered (reply_of reply) w self.old self.new (editing_view command)) }
@@ -219,17 +219,17 @@ impl Session {
         ensures bounds { self.new.bounds ≡ self.old.bounds }
     {
         if self.ended {
-            return Err(Ended);
+            return Err(OutOfMemory);
         }
         let Ok(reply) = edit_tree(&mut self.world, self.alloc, command) else {
             self.ended = true;
-            return Err(Ended);
+            return Err(OutOfMemory);
         };
         Ok(reply)
     }
 
     /// Moves an iterator on as `apply` does, with fewer arguments to pass.
-    pub fn next_node(&mut self, iterator: IteratorId) -> Result<Brief, Ended>
+    pub fn next_node(&mut self, iterator: IteratorId) -> Result<Brief, OutOfMemory>
         ensures answers { IfOk result
             (λ reply. (w : PlainWorld) → StandsFor self.old w →
             IsAnswered (reply_of reply) w self.old self.new (NextNode iterator)) }
@@ -242,13 +242,13 @@ impl Session {
         ensures bounds { self.new.bounds ≡ self.old.bounds }
     {
         if self.ended {
-            return Err(Ended);
+            return Err(OutOfMemory);
         }
         Ok(next_node(&mut self.world, iterator))
     }
 
     /// Moves an iterator back as `apply` does, with fewer arguments to pass.
-    pub fn previous_node(&mut self, iterator: IteratorId) -> Result<Brief, Ended>
+    pub fn previous_node(&mut self, iterator: IteratorId) -> Result<Brief, OutOfMemory>
         ensures answers { IfOk result
             (λ reply. (w : PlainWorld) → StandsFor self.old w →
             IsAnswered (reply_of reply) w self.old self.new (PreviousNode iterator)) }
@@ -261,13 +261,13 @@ impl Session {
         ensures bounds { self.new.bounds ≡ self.old.bounds }
     {
         if self.ended {
-            return Err(Ended);
+            return Err(OutOfMemory);
         }
         Ok(previous_node(&mut self.world, iterator))
     }
 
     /// Moves a walker as `apply` does, with fewer arguments to pass.
-    pub fn walk(&mut self, walker: WalkerId, direction: Move) -> Result<Brief, Ended>
+    pub fn walk(&mut self, walker: WalkerId, direction: Move) -> Result<Brief, OutOfMemory>
         ensures answers { IfOk result
             (λ reply. (w : PlainWorld) → StandsFor self.old w →
             IsAnswered (reply_of reply) w self.old self.new (Walk walker direction)) }
@@ -280,14 +280,14 @@ impl Session {
         ensures bounds { self.new.bounds ≡ self.old.bounds }
     {
         if self.ended {
-            return Err(Ended);
+            return Err(OutOfMemory);
         }
         Ok(walk(&mut self.world, walker, direction))
     }
 
     /// Returns whether an element has an attribute as `apply` does, from a borrowed name. It takes no memory,
     /// and the session stays.
-    pub fn has_attribute(&self, element: NodeId, name: &str) -> Result<Reply, Ended>
+    pub fn has_attribute(&self, element: NodeId, name: &str) -> Result<Reply, OutOfMemory>
         ensures answers { IfOk result
             (λ reply. (w : PlainWorld) → StandsFor self.now w →
             IsAnswered reply w self.now self.now (HasAttribute element name.now)) }
@@ -295,7 +295,7 @@ impl Session {
         ensures ended { OnErr result (self.now.ended ≡ true) }
     {
         if self.ended {
-            return Err(Ended);
+            return Err(OutOfMemory);
         }
         Ok(has_attribute(&self.world, element, name))
     }
@@ -308,7 +308,7 @@ impl Session {
             ≡ (answer self.old.bounds (held_world self.old) (reading_view question)).reply }
         ensures unchanged { self.new ≡ self.old }
     {
-        reading::read(&mut self.world, question)
+        read_only::read(&mut self.world, question)
     }
 
     /// Returns whether an element has an attribute, from a borrowed name, as `apply` does. After its end a session answers from the
@@ -325,11 +325,11 @@ impl Session {
     /// Returns a node's kind and its neighbours, in constant time. It applies no command and takes no memory.
     ///
     /// Like each call that reads, it also answers after the session's end, from the world that the last call left.
-    pub fn links(&self, node: NodeId) -> Result<Links, OwnError>
+    pub fn links(&self, node: NodeId) -> Result<Neighbours, OwnError>
         ensures shown { (w : PlainWorld) → StandsFor self.now w → result ≡ links_in w.forest node }
         ensures own { result ≡ links_in self.now.world.tree.forest node }
     {
-        links::links_at(&self.world.tree, node)
+        neighbours::links_at(&self.world.tree, node)
     }
 
     /// Returns the first child of a node, if any, in constant time.
@@ -338,7 +338,7 @@ impl Session {
             result ≡ first_child_in w.forest node }
         ensures own { result ≡ first_child_in self.now.world.tree.forest node }
     {
-        links::first_child(&self.world.tree, node)
+        neighbours::first_child(&self.world.tree, node)
     }
 
     /// Returns the last child of a node, if any, in constant time.
@@ -347,7 +347,7 @@ impl Session {
             result ≡ last_child_in w.forest node }
         ensures own { result ≡ last_child_in self.now.world.tree.forest node }
     {
-        links::last_child(&self.world.tree, node)
+        neighbours::last_child(&self.world.tree, node)
     }
 
     /// Returns the child of a node at an index, if any. It walks from the nearer end.
@@ -356,30 +356,30 @@ impl Session {
             result ≡ child_in index w.forest node }
         ensures own { result ≡ child_in index self.now.world.tree.forest node }
     {
-        links::child_at(&self.world.tree, node, index)
+        neighbours::child_at(&self.world.tree, node, index)
     }
 
     /// Copies the numbers of a node's children over the front of a slice, as far as there is room, and returns the number of
     /// children.
     pub fn copy_children(&self, node: NodeId, into: &mut [u32]) -> Result<usize, OwnError>
-        ensures count { (w : PlainWorld) → StandsFor self.now w → result ≡ count_in w.forest node }
+        ensures count { (w : PlainWorld) → StandsFor self.now w → result ≡ child_count_in w.forest node }
         ensures copied { (w : PlainWorld) → StandsFor self.now w →
             into.new ≡ laid_over (children_of w.forest node) into.old }
-        ensures own_count { result ≡ count_in self.now.world.tree.forest node }
+        ensures own_count { result ≡ child_count_in self.now.world.tree.forest node }
         ensures own_copied { into.new ≡ laid_over (children_of self.now.world.tree.forest node)
             into.old }
     {
-        links::copy_children(&self.world.tree, node, into)
+        neighbours::copy_children(&self.world.tree, node, into)
     }
 
     /// Borrows the label of a node: its kind and its names.
     pub fn label_of(&self, node: NodeId) -> Result<&Label, OwnError>
         ensures shown { (w : PlainWorld) → StandsFor self.now w →
-            lent_whole (λ label. label.now) result ≡ label_in w.forest node }
+            lent_whole (λ label. label.now) result ≡ label_of_node w.forest node }
         ensures own { lent_whole (λ label. label.now) result
-            ≡ label_in self.now.world.tree.forest node }
+            ≡ label_of_node self.now.world.tree.forest node }
     {
-        lending::label_of(&self.world.tree, node)
+        borrowed_data::label_of(&self.world.tree, node)
     }
 
     /// Borrows the data of a node; none if its kind has no data.
@@ -389,7 +389,7 @@ impl Session {
         ensures own { lent_as (λ units. units.now) result
             ≡ data_in self.now.world.tree.forest node }
     {
-        lending::data_of(&self.world.tree, node)
+        borrowed_data::data_of(&self.world.tree, node)
     }
 
     /// Borrows a node's attribute at a place, its name and its value; none past the last.
@@ -399,11 +399,11 @@ impl Session {
         index: usize,
     ) -> Result<Option<(&str, &Units)>, OwnError>
         ensures shown { (w : PlainWorld) → StandsFor self.now w →
-            lent_as attribute_at result ≡ attribute_in index w.forest node }
-        ensures own { lent_as attribute_at result ≡ attribute_in index self.now.world.tree.forest
+            lent_as attribute_at result ≡ attribute_of_node index w.forest node }
+        ensures own { lent_as attribute_at result ≡ attribute_of_node index self.now.world.tree.forest
             node }
     {
-        lending::attribute_at(&self.world.tree, node, index)
+        borrowed_data::attribute_at(&self.world.tree, node, index)
     }
 
     /// Returns the number of objects of each kind, in constant time. It applies no command and takes no memory.

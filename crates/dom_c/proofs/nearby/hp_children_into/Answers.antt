@@ -1,6 +1,6 @@
 use Rattle.std.proofs.Common.{◌≡◌, tests, rules, ap, Some, Err}
 use Rattle.dom_model.specs.Definitions.{children_of, World}
-use Rattle.dom_session.specs.Links.{count_in, laid_over}
+use Rattle.dom_session.specs.Neighbours.{child_count_in, laid_over}
 use Rattle.dom_wire.specs.Sessions.{StandsFor, held_world}
 use Rattle.dom_c.specs.Nearby.{children_over, told_as}
 use Rattle.dom_c.proofs.OpenReads.{reads-refused, refused-copies}
@@ -14,8 +14,8 @@ returns-in-Err-clause-copied c =
     let after = c.copy_children.new.into in
     let e = c.in-Err.error in
     let is : c.args.handle.now.slot.kept ≡ Some k = search (tests, rules) in
-    let none : (w : World) → StandsFor k.session w → Err e ≡ count_in w.forest n = search (tests, rules) in
-    let held : Err e ≡ count_in (held_world k.session).forest n = search (tests, rules) in
+    let none : (w : World) → StandsFor k.session w → Err e ≡ child_count_in w.forest n = search (tests, rules) in
+    let held : Err e ≡ child_count_in (held_world k.session).forest n = search (tests, rules) in
     let copied : (w : World) → StandsFor k.session w → after ≡ laid_over (children_of w.forest n) before = search (tests, rules) in
     let own : after ≡ laid_over (children_of (held_world k.session).forest n) before = search (tests, rules) in
     reads-refused (children_over n before) k c.args.handle.now.slot.kept before after c.status_of_own.result e is c.status_of_own.ensures

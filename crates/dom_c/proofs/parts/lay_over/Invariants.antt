@@ -1,6 +1,6 @@
 -- What has been copied is over the front, and what is to come goes over the rest.
 use Rattle.std.proofs.Common.{◌≡◌, ◌≤◌, ◌++◌, length, take, drop}
-use Rattle.dom_session.specs.Links.{laid_over}
+use Rattle.dom_session.specs.Neighbours.{laid_over}
 use Rattle.dom_c.proofs.parts.lay_over.Given as goal
 
 abbrev pub invariant-loop-number : goal.invariant-loop-number
