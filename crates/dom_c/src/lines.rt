@@ -5,7 +5,7 @@ ghost use Rattle.dom_model.specs.Commands.Reply.{is_refusal};
 ghost use Rattle.dom_model.specs.Commands.Table.{whole_table};
 ghost use Rattle.dom_model.specs.Commands.Line.{command_within};
 ghost use Rattle.dom_wire.specs.Sessions.{reply_view};
-ghost use Rattle.dom_wire.specs.Reads.{Reads};
+ghost use Rattle.dom_wire.specs.Reads.{ReadsCommand};
 ghost use Rattle.dom_c.specs.Lines.{AnswersLine, TakesLine, IsPrinted, IsReply, PrintsLast, PrintsLastIn, step_in};
 
 use crate::handle::Handle;
@@ -19,7 +19,7 @@ use std::alloc::{AllocError, Global};
 // Returns the command of a line within a limit, or the refusal of its form.
 #[tactic(auto, unfolding(dom_model::specs::Commands::Line::command_within))]
 fn read_within(alloc: Global, limit: usize, line: &[u8]) -> Result<Command, ReadError>
-    ensures { Reads result (command_within whole_table limit line.now) }
+    ensures { ReadsCommand result (command_within whole_table limit line.now) }
 {
     if line.len() > limit {
         return Err(ReadError::Own(OwnError::LineTooLong));

@@ -4,7 +4,7 @@ ghost use Rattle.std.specs.Prelude.{◌≡◌, true, false, IfOk};
 ghost use Rattle.dom_model.specs.Worlds.World.{World};
 ghost use Rattle.dom_wire.specs.Sessions.{StandsFor};
 ghost use Rattle.dom_wire.specs.Sessions.{reply_view};
-ghost use Rattle.dom_wire.specs.Reads.{Reads};
+ghost use Rattle.dom_wire.specs.Reads.{ReadsCommand};
 ghost use Rattle.dom_serve.specs.Calls.{IsWritten};
 ghost use Rattle.dom_serve.specs.ByLine.{IsLine, IsWrittenByLine};
 ghost use Rattle.dom_serve.specs.Tells.{is_write_fault};
@@ -20,7 +20,7 @@ use std::alloc::{AllocError, Global};
 
 /// Returns the command of a line, or the refusal of its form.
 fn command(alloc: Global, kept: &[u8], too_long: bool) -> Result<Command, ReadError>
-    ensures { Reads result (held_command kept.now too_long) }
+    ensures { ReadsCommand result (held_command kept.now too_long) }
 {
     if too_long {
         return Err(ReadError::Own(OwnError::LineTooLong));

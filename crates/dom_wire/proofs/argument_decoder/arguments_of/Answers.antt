@@ -2,8 +2,8 @@ use Rattle.std.proofs.Common.{◌≢◌, length, map, refl}
 use Rattle.std.proofs.lemmas.List.{length-map}
 use Rattle.serde_json.specs.View.{view}
 use Rattle.dom_wire.specs.Shapes.{shape_view}
-use Rattle.dom_wire.proofs.Steps.{arguments_from-none}
-use Rattle.dom_wire.proofs.decoding.arguments_of.Goals as goal
+use Rattle.dom_wire.proofs.ReadStepLemmas.{arguments_from-none}
+use Rattle.dom_wire.proofs.argument_decoder.arguments_of.Goals as goal
 
 pub returns-then-shapes-values : goal.returns-then-shapes-values
 returns-then-shapes-values c =

@@ -1,7 +1,7 @@
 use Rattle.std.proofs.Common.{◌∙◌}
 use Rattle.dom_model.specs.Definitions.{whole_table}
-use Rattle.dom_wire.proofs.Steps.{find-of_length}
-use Rattle.dom_wire.proofs.reading.named.Goals as goal
+use Rattle.dom_wire.proofs.ReadStepLemmas.{find-of_length}
+use Rattle.dom_wire.proofs.command_reader.named.Goals as goal
 
 pub returns : goal.returns
 returns c =

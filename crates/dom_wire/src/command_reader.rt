@@ -5,12 +5,12 @@ ghost use Rattle.serde_json.specs.Find.{as_array};
 ghost use Rattle.serde_json.specs.View.{view};
 ghost use Rattle.dom_model.specs.Commands.Table.{whole_table, no_arguments};
 ghost use Rattle.dom_model.specs.Commands.Line.{command_of, command_in_array, command_among, if_arguments, arguments_from, is_row_of};
-ghost use Rattle.dom_wire.specs.Reads.{Reads};
+ghost use Rattle.dom_wire.specs.Reads.{ReadsCommand};
 ghost use Rattle.dom_wire.specs.Rows.{row_of};
 
-use crate::decoding::arguments_of;
-use crate::error::ReadError;
-use crate::names::{Name, names_of_length};
+use crate::argument_decoder::arguments_of;
+use crate::command_names::{Name, names_of_length};
+use crate::read_error::ReadError;
 use dom_model::OwnError;
 use dom_session::Command;
 use serde_json::Value;
@@ -18,7 +18,7 @@ use std::alloc::Global;
 
 /// Reads the command of a line, which has no newline, or returns its refusal: `BadJson`, `BadCommand` or `BadArguments`.
 pub fn read_line(alloc: Global, line: &[u8]) -> Result<Command, ReadError>
-    ensures { Reads result (command_of whole_table line.now) }
+    ensures { ReadsCommand result (command_of whole_table line.now) }
 {
     match Value::from_slice(alloc, line) {
         Ok(value) => command_in(alloc, &value),
@@ -32,7 +32,7 @@ pub fn read_line(alloc: Global, line: &[u8]) -> Result<Command, ReadError>
 }
 
 fn command_in(alloc: Global, value: &Value) -> Result<Command, ReadError>
-    ensures { Reads result (command_in_array whole_table (as_array (view value.now))) }
+    ensures { ReadsCommand result (command_in_array whole_table (as_array (view value.now))) }
 {
     match value {
         Value::Array(items) => command_among(alloc, items.as_slice()),
@@ -42,7 +42,7 @@ fn command_in(alloc: Global, value: &Value) -> Result<Command, ReadError>
 
 // Reads a name first, and then its arguments.
 fn command_among(alloc: Global, values: &[Value]) -> Result<Command, ReadError>
-    ensures { Reads result (command_among whole_table (map view values.now)) }
+    ensures { ReadsCommand result (command_among whole_table (map view values.now)) }
 {
     if let [Value::String(text), rest @ ..] = values
         && let Some(name) = named(text.as_str())
@@ -71,7 +71,7 @@ fn named_among(names: &[Name], text: &str) -> Option<Name>
 }
 
 fn with_arguments(alloc: Global, name: Name, values: &[Value]) -> Result<Command, ReadError>
-    ensures { Reads result (if_arguments (row_of name)
+    ensures { ReadsCommand result (if_arguments (row_of name)
         (arguments_from 0 (row_of name).shapes (map view values.now) no_arguments)) }
 {
     match arguments_of(alloc, name.shapes(), values) {

@@ -7,7 +7,7 @@ ghost use Rattle.dom_model.specs.Commands.Printed.{reply_line, reply_json, answe
 ghost use Rattle.dom_session.specs.Views.{reply_view, brief_view, answer_view};
 ghost use Rattle.dom_wire.specs.Prints.{tokens_of, Adds};
 
-use crate::places::{
+use crate::position_printer::{
     write_description, write_ends, write_iterator, write_static_ends, write_walker,
 };
 use crate::records::{write_notified, write_records};

@@ -1,6 +1,6 @@
 use Rattle.std.proofs.Common.{◌∙◌}
-use Rattle.dom_wire.proofs.Steps.{line_of_tokens}
-use Rattle.dom_wire.proofs.printing.write_reply.Goals as goal
+use Rattle.dom_wire.proofs.ReadStepLemmas.{line_of_tokens}
+use Rattle.dom_wire.proofs.reply_printer.write_reply.Goals as goal
 
 pub returns : goal.returns
 returns c =

@@ -2,7 +2,7 @@ use Rattle.std.proofs.Common.{◌≡◌, drop, map}
 use Rattle.serde_json.specs.View.{view}
 use Rattle.dom_model.specs.Definitions.{no_arguments, arguments_from}
 use Rattle.dom_wire.specs.Shapes.{shape_view, arguments_view}
-use Rattle.dom_wire.proofs.decoding.arguments_of.Given as goal
+use Rattle.dom_wire.proofs.argument_decoder.arguments_of.Given as goal
 
 abbrev pub invariant-loop-place : goal.invariant-loop-place
 invariant-loop-place l =

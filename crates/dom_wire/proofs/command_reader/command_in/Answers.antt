@@ -1,6 +1,6 @@
 use Rattle.dom_model.specs.Definitions.{whole_table}
-use Rattle.dom_wire.proofs.Steps.{command_in-array}
-use Rattle.dom_wire.proofs.reading.command_in.Goals as goal
+use Rattle.dom_wire.proofs.ReadStepLemmas.{command_in-array}
+use Rattle.dom_wire.proofs.command_reader.command_in.Goals as goal
 
 pub returns-in-Array : goal.returns-in-Array
 returns-in-Array c =

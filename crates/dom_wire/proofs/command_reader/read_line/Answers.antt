@@ -1,7 +1,7 @@
 use Rattle.dom_model.specs.Definitions.{command_of_json}
 use Rattle.dom_model.specs.{Commands.Table.whole_table, Commands.Line.command_of}
-use Rattle.dom_wire.proofs.Steps.{json_of-text, json_of-none}
-use Rattle.dom_wire.proofs.reading.read_line.Goals as goal
+use Rattle.dom_wire.proofs.ReadStepLemmas.{json_of-text, json_of-none}
+use Rattle.dom_wire.proofs.command_reader.read_line.Goals as goal
 use Rattle.std.proofs.Common.{ap, sym, true≢false}
 
 pub returns-in-Ok : goal.returns-in-Ok
