@@ -7,12 +7,12 @@ ghost use Rattle.dom_wire.specs.Sessions.{reply_view};
 ghost use Rattle.dom_wire.specs.Reads.{ReadsCommand};
 ghost use Rattle.dom_serve.specs.Calls.{IsWritten};
 ghost use Rattle.dom_serve.specs.ByLine.{IsLine, IsWrittenByLine};
-ghost use Rattle.dom_serve.specs.Tells.{is_write_fault};
-ghost use Rattle.dom_serve.specs.Server.{held_command, held_step, Takes, Prints, Answers};
+ghost use Rattle.dom_serve.specs.Output.{is_write_fault};
+ghost use Rattle.dom_serve.specs.Server.{held_command, held_step, Takes, PrintsStep, WritesReply};
 
 use crate::fault::Fault;
+use crate::line_output::{write_line, write_out_of_memory};
 use crate::streams::{Failed, Sink};
-use crate::writing::{write_line, write_out_of_memory};
 use dom_wire::{
     Brief, Command, OutOfMemory, OwnError, ReadError, Reply, Session, read_line, write_reply,
 };
@@ -58,7 +58,7 @@ fn reply_text(
 ) -> Result<Vec<u8>, AllocError>
     ensures line { IfOk result (λ text. IsLine text.items) }
     ensures prints { IfOk result (λ text. (w : World) → StandsFor session.old w →
-        Prints (held_step session.old.bounds kept.now too_long w) text.items session.new) }
+        PrintsStep (held_step session.old.bounds kept.now too_long w) text.items session.new) }
     ensures bounds { session.new.bounds ≡ session.old.bounds }
 {
     match reply(alloc, session, kept, too_long) {
@@ -76,7 +76,7 @@ pub(crate) fn answer<W: Sink>(
     writer: &mut W,
 ) -> Result<(), Fault>
     ensures answers { (w : World) → StandsFor session.old w →
-        Answers (held_step session.old.bounds kept.now too_long w) session.new
+        WritesReply (held_step session.old.bounds kept.now too_long w) session.new
         (W.writing.taken writer.old) (W.writing.taken writer.new) result }
     ensures bounds { session.new.bounds ≡ session.old.bounds }
     ensures passed { is_write_fault result ≡ false → W.writing.is_passed_on writer.new ≡ true }

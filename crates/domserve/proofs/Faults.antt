@@ -1,7 +1,7 @@
 -- What a fault's status says of the reader and of the writer.
 use Rattle.std.proofs.Common.{◌≡◌, ◌≤◌, ◌⊎◌, ℕ, Bool, true, false, Option, Err, refl, inl, inr, arith}
 use Rattle.std.specs.declared.io.Error.{Error}
-use Rattle.dom_serve.specs.{declared.fault.Fault.Fault, declared.fault.Fault.TheVariants.Read, declared.fault.Fault.TheVariants.Write, declared.fault.Fault.TheVariants.Memory, declared.fault.Fault.TheVariants.InputTooLong, declared.fault.Summary.Summary, Tells.is_read_fault, Tells.is_write}
+use Rattle.dom_serve.specs.{declared.fault.Fault.Fault, declared.fault.Fault.TheVariants.Read, declared.fault.Fault.TheVariants.Write, declared.fault.Fault.TheVariants.Memory, declared.fault.Fault.TheVariants.InputTooLong, declared.fault.Summary.Summary, Output.is_read_fault, Output.is_write}
 use Rattle.domserve.specs.{Messages.is_silent, Statuses.status_at, Statuses.status_of, Statuses.IsFailure, Statuses.TellsFailedRead, Statuses.TellsFailedWrite}
 
 -- a failed write has a status of failures, silent or not

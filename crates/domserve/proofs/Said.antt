@@ -3,7 +3,7 @@ use Rattle.std.proofs.Common.{◌≡◌, ℕ, true, false, List, [], ◌∷◌, 
 use Rattle.std.specs.Io.KnownBytes.{Appends}
 use Rattle.std.proofs.KnownBytes.{Appends-trans}
 use Rattle.dom_serve.specs.{Streams.Writing, Calls.IsWritten, Writes.AppendsFront, Writes.Writes}
-use Rattle.dom_serve.proofs.Calls.{IsCalled-more}
+use Rattle.dom_serve.proofs.IsCalledLemmas.{IsCalled-more}
 use Rattle.domserve.specs.Messages.{SaysLine}
 
 -- the text was said whole, and then its newline, or that failed

@@ -40,13 +40,13 @@ IsCutShort replies text = IsPrefix text (joined replies) ⊎ ((whole : List ℕ)
 abbrev pub AnswersEarlier : Bounds → List (List ℕ) → List ℕ → Type 0
 AnswersEarlier b pieces text = IsPrefix (joined (due whole_table b (joined (before_last pieces)) false)) text
 
-abbrev pub Tells : Bounds → ℕ → List (List ℕ) → List ℕ → Result Summary Fault → Type 0
-Tells b turns pieces text (Ok summary) =
+abbrev pub IsOutput : Bounds → ℕ → List (List ℕ) → List ℕ → Result Summary Fault → Type 0
+IsOutput b turns pieces text (Ok summary) =
     (has_end pieces ≡ true) × (text ≡ output_of whole_table b (joined pieces)) × (summary.lines ≡ length (lines_of (joined pieces)))
-Tells b turns pieces text (Err Read) = (has_end pieces ≡ false) × (text ≡ joined (due whole_table b (joined pieces) false))
-Tells b turns pieces text (Err InputTooLong) =
+IsOutput b turns pieces text (Err Read) = (has_end pieces ≡ false) × (text ≡ joined (due whole_table b (joined pieces) false))
+IsOutput b turns pieces text (Err InputTooLong) =
     (length pieces ≡ turns) × (has_end pieces ≡ false) × (text ≡ joined (due whole_table b (joined pieces) false))
-Tells b turns pieces text (Err Write) =
+IsOutput b turns pieces text (Err Write) =
     IsCutShort (due whole_table b (joined pieces) (has_end pieces)) text × AnswersEarlier b pieces text
-Tells b turns pieces text (Err Memory) =
+IsOutput b turns pieces text (Err Memory) =
     SaysOutOfMemory (due whole_table b (joined pieces) (has_end pieces)) text × AnswersEarlier b pieces text

@@ -1,7 +1,7 @@
 use Rattle.std.proofs.Common.{refl}
 use Rattle.serde_json.proofs.OnLiterals.{serde_json_on_literals}
-use Rattle.dom_serve.proofs.ByLine.{line-want}
-use Rattle.dom_serve.proofs.writing.out_of_memory_text.Goals as goal
+use Rattle.dom_serve.proofs.ByLineLemmas.{line-want}
+use Rattle.dom_serve.proofs.line_output.out_of_memory_text.Goals as goal
 
 pub returns-clause-text : goal.returns-clause-text
 unfolding serde_json_on_literals

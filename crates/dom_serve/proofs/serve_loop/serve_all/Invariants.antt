@@ -1,7 +1,7 @@
 use Rattle.std.proofs.Common.{◌≡◌, ◌*◌, ◌≤◌, false, [], length}
 use Rattle.dom_model.specs.Definitions.{Bounds}
-use Rattle.dom_serve.specs.{Calls.HasAnswered, Calls.IsWritten, ByLine.IsWrittenByLine, Server.Stands, Server.IsSoFar}
-use Rattle.dom_serve.proofs.answering.serve_all.Given as goal
+use Rattle.dom_serve.specs.{Calls.HasAnswered, Calls.IsWritten, ByLine.IsWrittenByLine, Server.IsServerAfter, Server.IsSoFar}
+use Rattle.dom_serve.proofs.serve_loop.serve_all.Given as goal
 
 abbrev pub invariant-loop-turn : goal.invariant-loop-turn
 invariant-loop-turn g l = record {
@@ -10,6 +10,6 @@ invariant-loop-turn g l = record {
   writer : IsWritten g.W.Sink.writing false l.fn.writer l.writer;
   lines : l.server.lines ≤ 65536 * l._turn;
   size : length l.buffer ≡ 65536;
-  so_far : (b : Bounds) → Stands b [] l.fn.server
+  so_far : (b : Bounds) → IsServerAfter b [] l.fn.server
       → IsSoFar g.R.Source.reading b l._turn l.fn.reader l.reader l.server (g.W.Sink.writing.taken l.fn.writer) (g.W.Sink.writing.taken l.writer);
 }

@@ -1,6 +1,6 @@
 use Rattle.dom_wire.specs.Sessions.{bounds_of}
-use Rattle.dom_serve.proofs.Told.{told-output}
-use Rattle.dom_serve.proofs.answering.serve.Goals as goal
+use Rattle.dom_serve.proofs.ServesPiecesLemmas.{told-output}
+use Rattle.dom_serve.proofs.serve_loop.serve.Goals as goal
 
 pub returns-clause-output : goal.returns-clause-output
 returns-clause-output g c =

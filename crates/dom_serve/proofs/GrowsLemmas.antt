@@ -3,8 +3,8 @@ use Rattle.std.proofs.Common.{◌≡◌, ℕ, List, [], ◌∷◌, ◌++◌, Opt
 use Rattle.std.specs.Io.KnownBytes.{Appends}
 use Rattle.std.proofs.KnownBytes.{Appends-trans, Appends-nil}
 use Rattle.dom_model.specs.Definitions.{out_of_memory_line, joined}
-use Rattle.dom_serve.specs.{declared.fault.Fault.Fault, declared.fault.Fault.TheVariants.Read, declared.fault.Fault.TheVariants.Write, declared.fault.Fault.TheVariants.Memory, declared.fault.Fault.TheVariants.InputTooLong, Writes.IsPrefix, Writes.AppendsFront, Tells.SaysOutOfMemory, Tells.IsCutShort, Server.Grows, Server.IsBroken, Server.Breaks, Server.SaysWant}
-use Rattle.dom_serve.proofs.Lines.{joined-append, joined-single, IsPrefix-trans, IsPrefix-joined, IsPrefix-after}
+use Rattle.dom_serve.specs.{declared.fault.Fault.Fault, declared.fault.Fault.TheVariants.Read, declared.fault.Fault.TheVariants.Write, declared.fault.Fault.TheVariants.Memory, declared.fault.Fault.TheVariants.InputTooLong, Writes.IsPrefix, Writes.AppendsFront, Output.SaysOutOfMemory, Output.IsCutShort, Server.Grows, Server.IsBroken, Server.Breaks, Server.SaysWant}
+use Rattle.dom_serve.proofs.LinesLemmas.{joined-append, joined-single, IsPrefix-trans, IsPrefix-joined, IsPrefix-after}
 
 -- nothing became due
 pub Grows-same : (before after : List (List ℕ)) (taken : Option (List ℕ)) → after ≡ before → Grows before after taken taken

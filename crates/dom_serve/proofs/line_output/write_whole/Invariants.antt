@@ -1,7 +1,7 @@
 use Rattle.std.proofs.Common.{◌≤◌, ◌-◌, false, length, take}
 use Rattle.std.specs.Io.KnownBytes.{Appends}
 use Rattle.dom_serve.specs.Calls.{IsWritten}
-use Rattle.dom_serve.proofs.writing.write_whole.Given as goal
+use Rattle.dom_serve.proofs.line_output.write_whole.Given as goal
 
 abbrev pub invariant-loop-at : goal.invariant-loop-at
 invariant-loop-at g l = record {

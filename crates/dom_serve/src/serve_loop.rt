@@ -8,14 +8,14 @@ ghost use Rattle.dom_model.specs.Commands.Output.{output_of};
 ghost use Rattle.dom_wire.specs.Sessions.{bounds_of};
 ghost use Rattle.dom_serve.specs.Calls.{IsWritten, HasPassedOn, HasAnswered};
 ghost use Rattle.dom_serve.specs.ByLine.{IsWrittenByLine};
-ghost use Rattle.dom_serve.specs.Serves.{IsTold, Serves};
-ghost use Rattle.dom_serve.specs.Tells.{is_write_fault};
-ghost use Rattle.dom_serve.specs.Server.{Stands, Concludes};
+ghost use Rattle.dom_serve.specs.Serves.{ServesPieces, Serves};
+ghost use Rattle.dom_serve.specs.Output.{is_write_fault};
+ghost use Rattle.dom_serve.specs.Server.{IsServerAfter, Concludes};
 
 use crate::fault::{Fault, Summary};
+use crate::line_output::write_out_of_memory;
 use crate::server::Server;
 use crate::streams::{Failed, Sink, Source};
-use crate::writing::write_out_of_memory;
 use dom_wire::Limits;
 use std::alloc::{AllocError, Global};
 
@@ -34,7 +34,7 @@ fn read_buffer(alloc: Global) -> Result<Vec<u8>, AllocError>
 /// Replies to the last line, and returns the number of lines.
 fn conclude<W: Sink>(server: &mut Server, writer: &mut W) -> Result<Summary, Fault>
     requires room { server.old.lines + 1 < 2 ^ 64 }
-    ensures concludes { (b : Bounds) (bytes : List ℕ) → Stands b bytes server.old →
+    ensures concludes { (b : Bounds) (bytes : List ℕ) → IsServerAfter b bytes server.old →
         Concludes b bytes (W.writing.taken writer.old) (W.writing.taken writer.new) result }
     ensures passed { is_write_fault result ≡ false →
         HasAnswered W.writing writer.old server.old.lines writer.new server.new.lines }
@@ -77,8 +77,8 @@ fn serve_all<R: Source, W: Sink>(
     requires bounded { (1 ≤ turns) × (turns ≤ 2 ^ 40) }
     requires lines { server.old.lines ≡ 0 }
     requires size { length buffer.old ≡ READ_SIZE }
-    ensures told { (b : Bounds) → Stands b [] server.old →
-        IsTold R.reading b turns reader.old reader.new
+    ensures told { (b : Bounds) → IsServerAfter b [] server.old →
+        ServesPieces R.reading b turns reader.old reader.new
         (W.writing.taken writer.old) (W.writing.taken writer.new) result }
     ensures at_end { OnOk result (IsAtEnd (R.reading.left reader.new)) }
     ensures passed { is_write_fault result ≡ false → HasPassedOn W.writing writer.old writer.new }
@@ -102,7 +102,7 @@ fn serve_all<R: Source, W: Sink>(
 fn start(alloc: Global, limits: Limits) -> Result<(Server, Vec<u8>), AllocError>
     requires numbers { (1 ≤ limits.numbers) × (limits.numbers ≤ 4294967295) }
     requires line { 1 ≤ limits.line }
-    ensures stands { IfOk result (λ made. Stands (bounds_of limits) [] made.0) }
+    ensures stands { IfOk result (λ made. IsServerAfter (bounds_of limits) [] made.0) }
     ensures lines { IfOk result (λ made. made.0.lines ≡ 0) }
     ensures size { IfOk result (λ made. length made.1.items ≡ READ_SIZE) }
 {

@@ -1,6 +1,6 @@
 use Rattle.std.proofs.Common.{tests, rules}
-use Rattle.dom_serve.proofs.Calls.{IsCalled-last}
-use Rattle.dom_serve.proofs.writing.write_line.Goals as goal
+use Rattle.dom_serve.proofs.IsCalledLemmas.{IsCalled-last}
+use Rattle.dom_serve.proofs.line_output.write_line.Goals as goal
 
 pub returns-in-Ok-clause-writer : goal.returns-in-Ok-clause-writer
 returns-in-Ok-clause-writer g c =

@@ -1,7 +1,7 @@
 use Rattle.std.proofs.Common.{inr}
 use Rattle.dom_wire.specs.Sessions.{bounds_of}
-use Rattle.dom_serve.proofs.Told.{told-none}
-use Rattle.dom_serve.proofs.answering.serve_within.Goals as goal
+use Rattle.dom_serve.proofs.ServesPiecesLemmas.{told-none}
+use Rattle.dom_serve.proofs.serve_loop.serve_within.Goals as goal
 
 pub returns-in-Ok : goal.returns-in-Ok
 returns-in-Ok g c = record {

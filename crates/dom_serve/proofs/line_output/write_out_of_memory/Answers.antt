@@ -1,6 +1,6 @@
 use Rattle.dom_serve.specs.ByLine.{PassesLine, CutsLine}
-use Rattle.dom_serve.proofs.Calls.{IsCalled-one, IsCalled-failed}
-use Rattle.dom_serve.proofs.writing.write_out_of_memory.Goals as goal
+use Rattle.dom_serve.proofs.IsCalledLemmas.{IsCalled-one, IsCalled-failed}
+use Rattle.dom_serve.proofs.line_output.write_out_of_memory.Goals as goal
 
 pub returns-in-Ok-clause-by_line : goal.returns-in-Ok-clause-by_line
 returns-in-Ok-clause-by_line g c =

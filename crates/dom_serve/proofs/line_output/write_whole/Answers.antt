@@ -1,7 +1,7 @@
 use Rattle.std.proofs.Common.{true, false, tests, rules, arith}
 use Rattle.std.proofs.lemmas.Grind.{common_steps}
-use Rattle.dom_serve.proofs.{Texts.within, Texts.Appends-more, Texts.AppendsFront-kept, Calls.IsCalled-one, Calls.IsCalled-failed, Calls.IsCalled-more}
-use Rattle.dom_serve.proofs.writing.write_whole.Goals as goal
+use Rattle.dom_serve.proofs.{AppendsLemmas.within, AppendsLemmas.Appends-more, AppendsLemmas.AppendsFront-kept, IsCalledLemmas.IsCalled-one, IsCalledLemmas.IsCalled-failed, IsCalledLemmas.IsCalled-more}
+use Rattle.dom_serve.proofs.line_output.write_whole.Goals as goal
 
 pub loop-at-preserved : goal.loop-at-preserved
 loop-at-preserved g c = record {

@@ -5,13 +5,13 @@ use Rattle.std.proofs.lemmas.List.Elements.{All-push}
 use Rattle.std.proofs.KnownBytes.{Appends-trans, Appends-nil, Consumes-nil, Consumes-trans, Consumes-kept, Consumes-whole}
 use Rattle.dom_model.specs.Definitions.{Bounds, out_of_memory_line, joined, lines_of, output_of}
 use Rattle.dom_model.specs.{Commands.Table.whole_table, Commands.Output.due, Commands.Output.whole_lines}
-use Rattle.dom_serve.specs.{declared.fault.Fault.Fault, declared.fault.Fault.TheVariants.Read, declared.fault.Fault.TheVariants.Write, declared.fault.Fault.TheVariants.Memory, declared.fault.Fault.TheVariants.InputTooLong, declared.fault.Summary.Summary, declared.server.Server.Server, Streams.Reading, Writes.IsPrefix, Calls.EndsWith, Pieces.Reads, Pieces.AreWithin, Pieces.EndsOnce, Pieces.is_nothing, Pieces.has_end, Pieces.before_last, Tells.is_read_fault, Tells.SaysOutOfMemory, Tells.IsCutShort, Tells.AnswersEarlier, Tells.Tells, Server.Stands, Server.Grows, Server.IsBroken, Server.Breaks, Server.Concludes, Server.SaysWant, Server.IsSoFar, Serves.IsTold}
-use Rattle.dom_serve.proofs.{Lines.joined-single, Growth.Grows-written}
+use Rattle.dom_serve.specs.{declared.fault.Fault.Fault, declared.fault.Fault.TheVariants.Read, declared.fault.Fault.TheVariants.Write, declared.fault.Fault.TheVariants.Memory, declared.fault.Fault.TheVariants.InputTooLong, declared.fault.Summary.Summary, declared.server.Server.Server, Streams.Reading, Writes.IsPrefix, Calls.EndsWith, Pieces.ReadsPieces, Pieces.AreWithin, Pieces.EndsOnce, Pieces.is_nothing, Pieces.has_end, Pieces.before_last, Output.is_read_fault, Output.SaysOutOfMemory, Output.IsCutShort, Output.AnswersEarlier, Output.IsOutput, Server.IsServerAfter, Server.Grows, Server.IsBroken, Server.Breaks, Server.Concludes, Server.SaysWant, Server.IsSoFar, Serves.ServesPieces}
+use Rattle.dom_serve.proofs.{LinesLemmas.joined-single, GrowsLemmas.Grows-written}
 
 -- ---- one more piece
 
-Reads-more : {R : Type 0} (gives : R → List ℕ → R → Type 0) (old mid new : R) (pieces : List (List ℕ)) (piece : List ℕ) → Reads gives old pieces mid → gives mid piece new
-    → Reads gives old (pieces ++ piece ∷ []) new
+Reads-more : {R : Type 0} (gives : R → List ℕ → R → Type 0) (old mid new : R) (pieces : List (List ℕ)) (piece : List ℕ) → ReadsPieces gives old pieces mid → gives mid piece new
+    → ReadsPieces gives old (pieces ++ piece ∷ []) new
 Reads-more gives old mid new [] piece p q = (new, subst (λ r. gives r piece new) p q, refl)
 Reads-more gives old mid new (first ∷ pieces) piece p q = (p.0, p.1, Reads-more gives p.0 mid new pieces piece p.2 q)
 
@@ -63,7 +63,7 @@ due-nothing : (b : Bounds) → joined (due whole_table b [] false) ≡ []
 unfolding due whole_lines
 due-nothing b = refl
 
-pub so_far-none : {R : Type 0} (reading : Reading R) (b : Bounds) (old : R) (s : Server) (taken : Option (List ℕ)) → Stands b [] s
+pub so_far-none : {R : Type 0} (reading : Reading R) (b : Bounds) (old : R) (s : Server) (taken : Option (List ℕ)) → IsServerAfter b [] s
     → IsSoFar reading b 0 old old s taken taken
 so_far-none reading b old s taken h = record {
   pieces = [];
@@ -80,7 +80,7 @@ so_far-none reading b old s taken h = record {
 pub so_far-more : {R : Type 0} (reading : Reading R) (b : Bounds) (turn : ℕ) (old mid new : R) (s s' : Server)
     (taken taken' taken'' : Option (List ℕ)) (piece : List ℕ) (p : IsSoFar reading b turn old mid s taken taken') → reading.gives mid piece new → Consumes (reading.left mid) (reading.left new) piece
     → 0 < length piece → length piece ≤ 65536
-    → Stands b (joined p.pieces ++ piece) s' × Grows (due whole_table b (joined p.pieces) false) (due whole_table b (joined p.pieces ++ piece) false) taken' taken''
+    → IsServerAfter b (joined p.pieces ++ piece) s' × Grows (due whole_table b (joined p.pieces) false) (due whole_table b (joined p.pieces ++ piece) false) taken' taken''
     → IsSoFar reading b (turn + 1) old new s' taken taken''
 so_far-more reading b turn old mid new s s' taken taken' taken'' piece p given consumed some size fed =
     let e : joined p.pieces ++ piece ≡ joined (p.pieces ++ piece ∷ []) = sym (joined-single p.pieces piece) in
@@ -92,7 +92,7 @@ so_far-more reading b turn old mid new s s' taken taken' taken'' piece p given c
       open_ended = has_end-last p.pieces piece ∙ is_nothing-some piece some;
       some = some-more p.pieces piece p.some (is_nothing-some piece some);
       consumed = Consumes-more reading.left old mid new p.pieces piece p.consumed consumed;
-      stands = subst (λ l. Stands b l s') e fed.0;
+      stands = subst (λ l. IsServerAfter b l s') e fed.0;
       written = subst (λ l. Appends taken taken'' (joined (due whole_table b l false))) e
           (Grows-written (due whole_table b (joined p.pieces) false) (due whole_table b (joined p.pieces ++ piece) false) taken taken' taken'' p.written fed.1);
     }
@@ -102,7 +102,7 @@ so_far-more reading b turn old mid new s s' taken taken' taken'' piece p given c
 -- a read failed
 pub told-read : {R : Type 0} (reading : Reading R) (b : Bounds) (turns turn : ℕ) (old mid new : R) (s : Server)
     (taken taken' : Option (List ℕ)) → IsSoFar reading b turn old mid s taken taken' → turn < turns → Keeps (reading.left mid) (reading.left new) → reading.fails mid new
-    → IsTold reading b turns old new taken taken' (Err Read)
+    → ServesPieces reading b turns old new taken taken' (Err Read)
 told-read reading b turns turn old mid new s taken taken' p room kept failed = record {
   pieces = p.pieces;
   text = joined (due whole_table b (joined p.pieces) false);
@@ -118,7 +118,7 @@ told-read reading b turns turn old mid new s taken taken' p room kept failed = r
 
 -- no read is left
 pub told-too_long : {R : Type 0} (reading : Reading R) (b : Bounds) (turn turns : ℕ) (old new : R) (s : Server) (taken taken' : Option (List ℕ))
-    → IsSoFar reading b turn old new s taken taken' → turn ≡ turns → IsTold reading b turns old new taken taken' (Err InputTooLong)
+    → IsSoFar reading b turn old new s taken taken' → turn ≡ turns → ServesPieces reading b turns old new taken taken' (Err InputTooLong)
 told-too_long reading b turn turns old new s taken taken' p all = record {
   pieces = p.pieces;
   text = joined (due whole_table b (joined p.pieces) false);
@@ -134,7 +134,7 @@ told-too_long reading b turn turns old new s taken taken' p all = record {
 
 Tells-broken : (b : Bounds) (turns : ℕ) (pieces : List (List ℕ)) (piece text : List ℕ) (fault : Fault)
     → IsBroken (due whole_table b (joined pieces ++ piece) (is_nothing piece)) fault (joined (due whole_table b (joined pieces) false) ++ text)
-    → Tells b turns (pieces ++ piece ∷ []) (joined (due whole_table b (joined pieces) false) ++ text) (Err fault)
+    → IsOutput b turns (pieces ++ piece ∷ []) (joined (due whole_table b (joined pieces) false) ++ text) (Err fault)
 Tells-broken b turns pieces piece text Read h = absurd h
 Tells-broken b turns pieces piece text Write h =
     let whole = joined (due whole_table b (joined pieces) false) ++ text in (
@@ -163,7 +163,7 @@ pub told-broken : {R : Type 0} (reading : Reading R) (b : Bounds) (turns turn : 
     (taken taken' taken'' : Option (List ℕ)) (piece : List ℕ) (fault : Fault) (p : IsSoFar reading b turn old mid s taken taken') → turn < turns → length piece ≤ 65536
     → reading.gives mid piece new → Consumes (reading.left mid) (reading.left new) piece
     → Breaks (due whole_table b (joined p.pieces) false) (due whole_table b (joined p.pieces ++ piece) (is_nothing piece)) taken' taken'' fault
-    → IsTold reading b turns old new taken taken'' (Err fault)
+    → ServesPieces reading b turns old new taken taken'' (Err fault)
 told-broken reading b turns turn old mid new s taken taken' taken'' piece fault p room size given consumed q = record {
   within = AreWithin-more turns turn p.pieces piece p.count room p.sizes size;
   once = once-more p.pieces piece p.some;
@@ -182,7 +182,7 @@ pub told-end-broken : {R : Type 0} (reading : Reading R) (b : Bounds) (turns tur
     (taken taken' taken'' : Option (List ℕ)) (fault : Fault) (p : IsSoFar reading b turn old mid s taken taken') → turn < turns → reading.gives mid [] new
     → Consumes (reading.left mid) (reading.left new) []
     → Breaks (due whole_table b (joined p.pieces) false) (due whole_table b (joined p.pieces) true) taken' taken'' fault
-    → IsTold reading b turns old new taken taken'' (Err fault)
+    → ServesPieces reading b turns old new taken taken'' (Err fault)
 told-end-broken reading b turns turn old mid new s taken taken' taken'' fault p room given consumed q =
     told-broken reading b turns turn old mid new s taken taken' taken'' [] fault p room (omega arith) given consumed
     (subst (λ l. Breaks (due whole_table b (joined p.pieces) false) (due whole_table b l true) taken' taken'' fault) (sym (append-nil (joined p.pieces))) q)
@@ -192,7 +192,7 @@ pub told-ok : {R : Type 0} (reading : Reading R) (b : Bounds) (turns turn : ℕ)
     (taken taken' taken'' : Option (List ℕ)) (summary : Summary) (p : IsSoFar reading b turn old mid s taken taken') → turn < turns → reading.gives mid [] new
     → Consumes (reading.left mid) (reading.left new) [] → summary.lines ≡ length (lines_of (joined p.pieces))
     → Grows (due whole_table b (joined p.pieces) false) (due whole_table b (joined p.pieces) true) taken' taken''
-    → IsTold reading b turns old new taken taken'' (Ok summary)
+    → ServesPieces reading b turns old new taken taken'' (Ok summary)
 told-ok reading b turns turn old mid new s taken taken' taken'' summary p room given consumed lines q =
     let e : joined p.pieces ≡ joined (p.pieces ++ [] ∷ []) = sym (joined-single p.pieces [] ∙ append-nil (joined p.pieces)) in
     record {
@@ -214,7 +214,7 @@ told-ok reading b turns turn old mid new s taken taken' taken'' summary p room g
 pub told-concluded : {R : Type 0} (reading : Reading R) (b : Bounds) (turns turn : ℕ) (old mid new : R) (s : Server)
     (taken taken' taken'' : Option (List ℕ)) (result : Result Summary Fault) (n : ℕ) (buffer : List ℕ) (p : IsSoFar reading b turn old mid s taken taken') → turn < turns → n ≡ 0
     → reading.gives mid (take n buffer) new → Consumes (reading.left mid) (reading.left new) (take n buffer) → Concludes b (joined p.pieces) taken' taken'' result
-    → IsTold reading b turns old new taken taken'' result
+    → ServesPieces reading b turns old new taken taken'' result
 told-concluded reading b turns turn old mid new s taken taken' taken'' (Ok summary) n buffer p room e given consumed q =
     told-ok reading b turns turn old mid new s taken taken' taken'' summary p room (subst (λ m. reading.gives mid (take m buffer) new) e given)
     (subst (λ m. Consumes (reading.left mid) (reading.left new) (take m buffer)) e consumed) q.0 q.1
@@ -235,7 +235,7 @@ pub told-fed : {R : Type 0} (reading : Reading R) (b : Bounds) (turns turn : ℕ
     → reading.gives mid piece new
     → Consumes (reading.left mid) (reading.left new) piece
     → Breaks (due whole_table b (joined p.pieces) false) (due whole_table b (joined p.pieces ++ piece) false) taken' taken'' fault
-    → IsTold reading b turns old new taken taken'' (Err fault)
+    → ServesPieces reading b turns old new taken taken'' (Err fault)
 told-fed reading b turns turn old mid new s taken taken' taken'' piece fault p room some size given consumed q =
     told-broken reading b turns turn old mid new s taken taken' taken'' piece fault p room size given consumed
     (subst (λ t. Breaks (due whole_table b (joined p.pieces) false) (due whole_table b (joined p.pieces ++ piece) t) taken' taken'' fault) (sym (is_nothing-some piece some)) q)
@@ -252,7 +252,7 @@ earlier-none b text = (text, sym (ap (λ l. l ++ text) (due-nothing b)))
 
 -- memory was wanting ahead of the first read
 pub told-none : {R : Type 0} (reading : Reading R) (b : Bounds) (turns : ℕ) (old : R) (taken taken' : Option (List ℕ)) (fault : Fault)
-    → SaysWant taken taken' fault → IsTold reading b turns old old taken taken' (Err fault)
+    → SaysWant taken taken' fault → ServesPieces reading b turns old old taken taken' (Err fault)
 told-none reading b turns old taken taken' Read s = absurd s
 told-none reading b turns old taken taken' Write s = record {
   pieces = [];
@@ -284,7 +284,7 @@ told-none reading b turns old taken taken' InputTooLong s = absurd s
 
 -- what was written is the output for all of the input
 pub told-output : {R : Type 0} (reading : Reading R) (b : Bounds) (turns : ℕ) (old new : R) (taken taken' : Option (List ℕ))
-    (result : Result Summary Fault) → IsTold reading b turns old new taken taken' result → OnOk result (IsAtEnd (reading.left new))
+    (result : Result Summary Fault) → ServesPieces reading b turns old new taken taken' result → OnOk result (IsAtEnd (reading.left new))
     → OnOk result (IfSome (reading.left old) (λ input. Appends taken taken' (output_of whole_table b input)))
 told-output reading b turns old new taken taken' (Ok summary) t ended =
     Consumes-whole (reading.left old) (reading.left new) (joined t.pieces) (λ input. Appends taken taken' (output_of whole_table b input)) t.consumed ended

@@ -5,7 +5,7 @@ ghost use Rattle.dom_model.specs.Commands.Printed.{out_of_memory_line};
 ghost use Rattle.dom_serve.specs.Calls.{IsWritten};
 ghost use Rattle.dom_serve.specs.ByLine.{IsLine, IsWrittenByLine};
 ghost use Rattle.dom_serve.specs.Writes.{Writes};
-ghost use Rattle.dom_serve.specs.Tells.{is_write};
+ghost use Rattle.dom_serve.specs.Output.{is_write};
 ghost use Rattle.dom_serve.specs.Server.{SaysWant};
 
 use crate::fault::Fault;

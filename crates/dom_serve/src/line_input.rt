@@ -5,14 +5,14 @@ ghost use Rattle.dom_model.specs.Commands.Answer.{Bounds};
 ghost use Rattle.dom_wire.specs.Sessions.{bounds_of};
 ghost use Rattle.dom_serve.specs.Calls.{HasAnswered, IsWritten};
 ghost use Rattle.dom_serve.specs.ByLine.{IsWrittenByLine};
-ghost use Rattle.dom_serve.specs.Tells.{is_write_fault};
-ghost use Rattle.dom_serve.specs.Server.{EndsNoLine, Stands, Fed, Finishes};
+ghost use Rattle.dom_serve.specs.Output.{is_write_fault};
+ghost use Rattle.dom_serve.specs.Server.{EndsNoLine, IsServerAfter, Fed, Finishes};
 
 use crate::fault::Fault;
+use crate::line_output::write_out_of_memory;
 use crate::replies::answer;
 use crate::server::Server;
 use crate::streams::Sink;
-use crate::writing::write_out_of_memory;
 use dom_wire::{Limits, Session};
 use memchr::memchr;
 use std::alloc::{AllocError, Global};
@@ -31,7 +31,7 @@ impl Server {
     pub fn new(alloc: Global, limits: Limits) -> Result<Server, AllocError>
         requires numbers { (1 ≤ limits.numbers) × (limits.numbers ≤ 4294967295) }
         requires line { 1 ≤ limits.line }
-        ensures stands { IfOk result (λ server. Stands (bounds_of limits) [] server) }
+        ensures stands { IfOk result (λ server. IsServerAfter (bounds_of limits) [] server) }
         ensures lines { IfOk result (λ server. server.lines ≡ 0) }
     {
         let session = Session::new(alloc, limits)?;
@@ -49,7 +49,7 @@ impl Server {
     /// Replies to the buffered line, and clears the buffer.
     fn end_line<W: Sink>(&mut self, writer: &mut W) -> Result<(), Fault>
         requires room { self.old.lines + 1 < 2 ^ 64 }
-        ensures fed { (b : Bounds) (bytes : List ℕ) → Stands b bytes self.old →
+        ensures fed { (b : Bounds) (bytes : List ℕ) → IsServerAfter b bytes self.old →
             Fed b bytes (bytes ++ 10 ∷ []) self.new
             (W.writing.taken writer.old) (W.writing.taken writer.new) result }
         ensures lines { self.new.lines ≤ self.old.lines + 1 }
@@ -75,7 +75,7 @@ impl Server {
     /// Buffers bytes without a newline. A line over the limit has no buffered bytes.
     fn keep<W: Sink>(&mut self, part: &[u8], writer: &mut W) -> Result<(), Fault>
         requires part { EndsNoLine part.now }
-        ensures fed { (b : Bounds) (bytes : List ℕ) → Stands b bytes self.old →
+        ensures fed { (b : Bounds) (bytes : List ℕ) → IsServerAfter b bytes self.old →
             Fed b bytes (bytes ++ part.now) self.new
             (W.writing.taken writer.old) (W.writing.taken writer.new) result }
         ensures lines { self.new.lines ≡ self.old.lines }
@@ -102,7 +102,7 @@ impl Server {
     fn feed_line<W: Sink>(&mut self, rest: &[u8], writer: &mut W) -> Result<(), Fault>
         requires room { self.old.lines + 1 < 2 ^ 64 }
         requires rest { EndsNoLine rest.now }
-        ensures fed { (b : Bounds) (bytes : List ℕ) → Stands b bytes self.old →
+        ensures fed { (b : Bounds) (bytes : List ℕ) → IsServerAfter b bytes self.old →
             Fed b bytes (bytes ++ rest.now ++ 10 ∷ []) self.new
             (W.writing.taken writer.old) (W.writing.taken writer.new) result }
         ensures lines { self.new.lines ≤ self.old.lines + 1 }
@@ -118,7 +118,7 @@ impl Server {
     /// Buffers bytes, and replies to each line at its newline.
     pub fn feed_all<W: Sink>(&mut self, piece: &[u8], writer: &mut W) -> Result<(), Fault>
         requires room { self.old.lines + length piece.now < 2 ^ 64 }
-        ensures fed { (b : Bounds) (bytes : List ℕ) → Stands b bytes self.old →
+        ensures fed { (b : Bounds) (bytes : List ℕ) → IsServerAfter b bytes self.old →
             Fed b bytes (bytes ++ piece.now) self.new
             (W.writing.taken writer.old) (W.writing.taken writer.new) result }
         ensures lines { self.new.lines ≤ self.old.lines + length piece.now }
@@ -138,7 +138,7 @@ impl Server {
     /// Replies to the last line, if the input did not end with a newline.
     pub fn finish<W: Sink>(&mut self, writer: &mut W) -> Result<(), Fault>
         requires room { self.old.lines + 1 < 2 ^ 64 }
-        ensures finishes { (b : Bounds) (bytes : List ℕ) → Stands b bytes self.old →
+        ensures finishes { (b : Bounds) (bytes : List ℕ) → IsServerAfter b bytes self.old →
             Finishes b bytes self.new
             (W.writing.taken writer.old) (W.writing.taken writer.new) result }
         ensures passed { is_write_fault result ≡ false →

@@ -1,7 +1,7 @@
 use Rattle.std.proofs.Common.{◌≡◌, false, length, arith, refl, tests, rules}
-use Rattle.dom_serve.specs.{ByLine.PassesLine, ByLine.CutsLine, Tells.is_write, Tells.is_write_fault}
-use Rattle.dom_serve.proofs.{Calls.IsCalled-none, Calls.IsCalled-more, Calls.HasAnswered-none, Calls.HasAnswered-more, Calls.HasAnswered-passed, Calls.HasAnswered-asked, Told.so_far-none, Told.so_far-more, Told.told-read, Told.told-too_long, Told.told-concluded, Told.told-fed, Told.some-read, Told.most-read, Told.lines-more}
-use Rattle.dom_serve.proofs.answering.serve_all.Goals as goal
+use Rattle.dom_serve.specs.{ByLine.PassesLine, ByLine.CutsLine, Output.is_write, Output.is_write_fault}
+use Rattle.dom_serve.proofs.{IsCalledLemmas.IsCalled-none, IsCalledLemmas.IsCalled-more, IsCalledLemmas.HasAnswered-none, IsCalledLemmas.HasAnswered-more, IsCalledLemmas.HasAnswered-passed, IsCalledLemmas.HasAnswered-asked, ServesPiecesLemmas.so_far-none, ServesPiecesLemmas.so_far-more, ServesPiecesLemmas.told-read, ServesPiecesLemmas.told-too_long, ServesPiecesLemmas.told-concluded, ServesPiecesLemmas.told-fed, ServesPiecesLemmas.some-read, ServesPiecesLemmas.most-read, ServesPiecesLemmas.lines-more}
+use Rattle.dom_serve.proofs.serve_loop.serve_all.Goals as goal
 
 pub loop-turn-init : goal.loop-turn-init
 loop-turn-init g c = record {

@@ -6,8 +6,8 @@ use Rattle.dom_model.specs.declared.OwnError.TheVariants.{LineTooLong}
 use Rattle.dom_model.specs.Definitions.{Bounds, Step, World, first_world, reply_line, lines_of, line_if_any, step_of, line_step, world_after, replies_from}
 use Rattle.dom_model.specs.{Commands.Table.whole_table, Commands.Line.command_of, Commands.Line.command_within, Commands.Output.whole_lines, Commands.Output.last_piece, Commands.Output.due}
 use Rattle.dom_wire.specs.Sessions.{StandsFor}
-use Rattle.dom_serve.specs.{declared.fault.Fault.Fault, declared.fault.Fault.TheVariants.Read, declared.fault.Fault.TheVariants.Write, declared.fault.Fault.TheVariants.Memory, declared.fault.Fault.TheVariants.InputTooLong, declared.server.Server.Server, Server.EndsNoLine, Server.held_command, Server.held_step, Server.Fails, Server.HoldsPiece, Server.Stands, Server.Grows, Server.Breaks, Server.Fed, Server.Finishes, Server.SaysWant}
-use Rattle.dom_serve.proofs.{Lines.whole_lines-append_newline, Lines.last_piece-append_newline, Lines.whole_lines-append_part, Lines.last_piece-append_part, Lines.due-append, Lines.due-part, Lines.due-newline, Lines.world-newline, Growth.Grows-same, Growth.Grows-one, Growth.Grows-trans, Growth.Breaks-more, Growth.Breaks-after, Growth.Breaks-want, Growth.Breaks-front}
+use Rattle.dom_serve.specs.{declared.fault.Fault.Fault, declared.fault.Fault.TheVariants.Read, declared.fault.Fault.TheVariants.Write, declared.fault.Fault.TheVariants.Memory, declared.fault.Fault.TheVariants.InputTooLong, declared.server.Server.Server, Server.EndsNoLine, Server.held_command, Server.held_step, Server.Fails, Server.HoldsPiece, Server.IsServerAfter, Server.Grows, Server.Breaks, Server.Fed, Server.Finishes, Server.SaysWant}
+use Rattle.dom_serve.proofs.{LinesLemmas.whole_lines-append_newline, LinesLemmas.last_piece-append_newline, LinesLemmas.whole_lines-append_part, LinesLemmas.last_piece-append_part, LinesLemmas.due-append, LinesLemmas.due-part, LinesLemmas.due-newline, LinesLemmas.world-newline, GrowsLemmas.Grows-same, GrowsLemmas.Grows-one, GrowsLemmas.Grows-trans, GrowsLemmas.Breaks-more, GrowsLemmas.Breaks-after, GrowsLemmas.Breaks-want, GrowsLemmas.Breaks-front}
 
 -- ---- the line that is held
 
@@ -31,7 +31,7 @@ world_at b bytes = world_after whole_table b first_world (whole_lines bytes)
 abbrev pub last_step : Bounds → List ℕ → Step
 last_step b bytes = line_step whole_table b (world_at b bytes) (last_piece bytes)
 
-step-held : (b : Bounds) (bytes : List ℕ) (s : Server) (kept : List ℕ) → Stands b bytes s → kept ≡ s.kept.items
+step-held : (b : Bounds) (bytes : List ℕ) (s : Server) (kept : List ℕ) → IsServerAfter b bytes s → kept ≡ s.kept.items
     → held_step s.session.bounds kept s.too_long (world_at b bytes) ≡ last_step b bytes
 step-held b bytes s kept h e =
     ap (λ a. held_step a kept s.too_long (world_at b bytes)) h.bounds
@@ -52,7 +52,7 @@ Breaks-newline b bytes taken taken' Memory a =
 Breaks-newline b bytes taken taken' InputTooLong a = absurd a
 
 -- the held line was not answered whole
-pub Breaks-answered : (b : Bounds) (bytes : List ℕ) (s : Server) (kept : List ℕ) (taken taken' : Option (List ℕ)) (fault : Fault) → Stands b bytes s
+pub Breaks-answered : (b : Bounds) (bytes : List ℕ) (s : Server) (kept : List ℕ) (taken taken' : Option (List ℕ)) (fault : Fault) → IsServerAfter b bytes s
     → kept ≡ s.kept.items → ((w : World) → StandsFor s.session w → Fails (held_step s.session.bounds kept s.too_long w) taken taken' fault)
     → Breaks (due whole_table b bytes false) (due whole_table b (bytes ++ 10 ∷ []) false) taken taken' fault
 Breaks-answered b bytes s kept taken taken' fault h e answers =
@@ -68,9 +68,9 @@ holds-nothing : (limit : ℕ) (kept : List ℕ) (too_long : Bool) (piece : List 
 holds-nothing limit kept true piece e f h = absurd (cc)
 holds-nothing limit kept false piece e f h = (h ∙ sym f, subst (λ l. length l ≤ limit) (sym f) (omega arith))
 
-Stands-newline : (b : Bounds) (bytes : List ℕ) (s s' : Server) → Stands b bytes s → StandsFor s'.session (last_step b bytes).world
+Stands-newline : (b : Bounds) (bytes : List ℕ) (s s' : Server) → IsServerAfter b bytes s → StandsFor s'.session (last_step b bytes).world
     → s'.session.bounds ≡ s.session.bounds → s'.line ≡ s.line → s'.lines ≡ s.lines + 1 → s'.kept.items ≡ [] → s'.too_long ≡ false
-    → Stands b (bytes ++ 10 ∷ []) s'
+    → IsServerAfter b (bytes ++ 10 ∷ []) s'
 Stands-newline b bytes s s' h w bounds line lines kept short = record {
   world = subst (λ v. StandsFor s'.session v) (sym (world-newline b bytes)) w;
   bounds = bounds ∙ h.bounds;
@@ -80,18 +80,18 @@ Stands-newline b bytes s s' h w bounds line lines kept short = record {
 }
 
 -- the held line was answered, and none is held
-pub Stands-answered : (b : Bounds) (bytes : List ℕ) (s s' : Server) (kept : List ℕ) (taken taken' : Option (List ℕ)) → Stands b bytes s → kept ≡ s.kept.items
+pub Stands-answered : (b : Bounds) (bytes : List ℕ) (s s' : Server) (kept : List ℕ) (taken taken' : Option (List ℕ)) → IsServerAfter b bytes s → kept ≡ s.kept.items
     → ((w : World) → StandsFor s.session w → let t = held_step s.session.bounds kept s.too_long w in StandsFor s'.session t.world × Appends taken taken' (reply_line t.reply))
     → s'.session.bounds ≡ s.session.bounds → s'.line ≡ s.line → s'.lines ≡ s.lines + 1 → s'.kept.items ≡ [] → s'.too_long ≡ false
-    → Stands b (bytes ++ 10 ∷ []) s' × Grows (due whole_table b bytes false) (due whole_table b (bytes ++ 10 ∷ []) false) taken taken'
+    → IsServerAfter b (bytes ++ 10 ∷ []) s' × Grows (due whole_table b bytes false) (due whole_table b (bytes ++ 10 ∷ []) false) taken taken'
 Stands-answered b bytes s s' kept taken taken' h e answers bounds line lines none short =
     let a = subst (λ t. StandsFor s'.session t.world × Appends taken taken' (reply_line t.reply)) (step-held b bytes s kept h e) (answers (world_at b bytes) h.world) in
     (Stands-newline b bytes s s' h a.0 bounds line lines none short, Grows-newline b bytes taken taken' a.1)
 
 -- ---- bytes that end no line
 
-Stands-longer : (b : Bounds) (bytes part : List ℕ) (s s' : Server) → EndsNoLine part → Stands b bytes s → s'.session ≡ s.session → s'.line ≡ s.line
-    → s'.lines ≡ s.lines → HoldsPiece b.line s'.kept.items s'.too_long (last_piece bytes ++ part) → Stands b (bytes ++ part) s'
+Stands-longer : (b : Bounds) (bytes part : List ℕ) (s s' : Server) → EndsNoLine part → IsServerAfter b bytes s → s'.session ≡ s.session → s'.line ≡ s.line
+    → s'.lines ≡ s.lines → HoldsPiece b.line s'.kept.items s'.too_long (last_piece bytes ++ part) → IsServerAfter b (bytes ++ part) s'
 Stands-longer b bytes part s s' ends_none h session line lines piece =
     let same = whole_lines-append_part bytes part ends_none in
     record {
@@ -103,9 +103,9 @@ Stands-longer b bytes part s s' ends_none h session line lines piece =
     }
 
 -- bytes that end no line were taken
-pub Stands-part : (b : Bounds) (bytes part : List ℕ) (s s' : Server) (taken : Option (List ℕ)) → EndsNoLine part → Stands b bytes s → s'.session ≡ s.session
+pub Stands-part : (b : Bounds) (bytes part : List ℕ) (s s' : Server) (taken : Option (List ℕ)) → EndsNoLine part → IsServerAfter b bytes s → s'.session ≡ s.session
     → s'.line ≡ s.line → s'.lines ≡ s.lines → HoldsPiece b.line s'.kept.items s'.too_long (last_piece bytes ++ part)
-    → Stands b (bytes ++ part) s' × Grows (due whole_table b bytes false) (due whole_table b (bytes ++ part) false) taken taken
+    → IsServerAfter b (bytes ++ part) s' × Grows (due whole_table b bytes false) (due whole_table b (bytes ++ part) false) taken taken
 Stands-part b bytes part s s' taken ends_none h session line lines piece = (
   Stands-longer b bytes part s s' ends_none h session line lines piece,
   Grows-same (due whole_table b bytes false) (due whole_table b (bytes ++ part) false) taken (due-part b bytes part ends_none),
@@ -164,12 +164,12 @@ line_behind bytes front line = simp append_assoc
 -- one line more of a piece
 pub Fed-line : (b : Bounds) (bytes front line : List ℕ) (s' : Server) (taken taken' taken'' : Option (List ℕ))
     → Grows (due whole_table b bytes false) (due whole_table b (bytes ++ front) false) taken taken'
-    → Stands b (bytes ++ front ++ line ++ 10 ∷ []) s'
+    → IsServerAfter b (bytes ++ front ++ line ++ 10 ∷ []) s'
     × Grows (due whole_table b (bytes ++ front) false) (due whole_table b (bytes ++ front ++ line ++ 10 ∷ []) false) taken' taken''
-    → Stands b (bytes ++ (front ++ line ++ 10 ∷ [])) s'
+    → IsServerAfter b (bytes ++ (front ++ line ++ 10 ∷ [])) s'
     × Grows (due whole_table b bytes false) (due whole_table b (bytes ++ (front ++ line ++ 10 ∷ [])) false) taken taken''
 Fed-line b bytes front line s' taken taken' taken'' p q =
-    subst (λ l. Stands b l s' × Grows (due whole_table b bytes false) (due whole_table b l false) taken taken'') (line_behind bytes front line) (
+    subst (λ l. IsServerAfter b l s' × Grows (due whole_table b bytes false) (due whole_table b l false) taken taken'') (line_behind bytes front line) (
       q.0,
       Grows-trans (due whole_table b bytes false) (due whole_table b (bytes ++ front) false) (due whole_table b (bytes ++ front ++ line ++ 10 ∷ []) false)
           taken taken' taken'' p q.1,
@@ -227,7 +227,7 @@ piece-some : (limit : ℕ) (kept : List ℕ) (too_long : Bool) (piece : List ℕ
 piece-some limit kept true piece e p = omega arith
 piece-some limit kept false piece e p = elim e [ inl h ↦ absurd (cc) | inr h ↦ omega (arith, ap length p.0) ]
 
-pub Finishes-fed : {T : Type 0} (b : Bounds) (bytes : List ℕ) (s s' : Server) (taken taken' : Option (List ℕ)) (result : Result T Fault) → Stands b bytes s
+pub Finishes-fed : {T : Type 0} (b : Bounds) (bytes : List ℕ) (s s' : Server) (taken taken' : Option (List ℕ)) (result : Result T Fault) → IsServerAfter b bytes s
     → (s.too_long ≡ true) ⊎ (0 < length s.kept.items) → Fed b bytes (bytes ++ 10 ∷ []) s' taken taken' result → Finishes b bytes s' taken taken' result
 Finishes-fed b bytes s s' taken taken' result h e f =
     Finishes-piece b bytes s' taken taken' result (last_piece bytes) refl (piece-some b.line s.kept.items s.too_long (last_piece bytes) e h.piece) f
@@ -241,7 +241,7 @@ unfolding due
 due-none b bytes e = ap (replies_from whole_table b first_world) (ap (λ l. whole_lines bytes ++ line_if_any l) e ∙ append-nil (whole_lines bytes))
 
 -- no line was left
-pub Finishes-none : (b : Bounds) (bytes : List ℕ) (s : Server) (taken : Option (List ℕ)) → Stands b bytes s → s.too_long ≡ false → s.kept.items ≡ []
+pub Finishes-none : (b : Bounds) (bytes : List ℕ) (s : Server) (taken : Option (List ℕ)) → IsServerAfter b bytes s → s.too_long ≡ false → s.kept.items ≡ []
     → (s.lines ≡ length (lines_of bytes)) × Grows (due whole_table b bytes false) (due whole_table b bytes true) taken taken
 Finishes-none b bytes s taken h short none =
     let last : last_piece bytes ≡ [] = piece-none b.line s.kept.items s.too_long (last_piece bytes) short none h.piece in (
@@ -252,7 +252,7 @@ Finishes-none b bytes s taken h short none =
 -- ---- the start
 
 pub Stands-new : (b : Bounds) (s : Server) → StandsFor s.session first_world → s.session.bounds ≡ b → s.line ≡ b.line → s.lines ≡ 0 → s.kept.items ≡ []
-    → s.too_long ≡ false → Stands b [] s
+    → s.too_long ≡ false → IsServerAfter b [] s
 unfolding whole_lines last_piece
 Stands-new b s world bounds line lines none short = record {
   world = world;
