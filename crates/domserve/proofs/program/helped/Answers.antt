@@ -1,7 +1,7 @@
 use Rattle.std.proofs.Common.{inl, inr, sym, refl, ◌∙◌}
 use Rattle.dom_serve.specs.declared.fault.Fault.TheVariants.{Write}
-use Rattle.domserve.proofs.Faults.{failed-write, not-zero}
-use Rattle.domserve.proofs.running.helped.Goals as goal
+use Rattle.domserve.proofs.FaultLemmas.{failed-write, not-zero}
+use Rattle.domserve.proofs.program.helped.Goals as goal
 
 pub returns-in-Err-clause-range : goal.returns-in-Err-clause-range
 returns-in-Err-clause-range g c = inr (failed-write c.last_error.result c.faulted.result c.faulted.ensures.status)

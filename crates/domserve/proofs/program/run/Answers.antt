@@ -1,8 +1,8 @@
 use Rattle.std.proofs.Common.{inl, map, refl, subst, sym}
 use Rattle.dom_options.specs.CommandLine.{TellsOf, faults_in}
 use Rattle.dom_serve.specs.declared.fault.Fault.TheVariants.{Memory, Write}
-use Rattle.domserve.specs.{declared.running.TheConstants.HINT, Messages.MayHint, Statuses.ServesUpTo, Statuses.by_serving, Statuses.by_helping, Statuses.by_want_ahead}
-use Rattle.domserve.proofs.running.run.Goals as goal
+use Rattle.domserve.specs.{declared.program.TheConstants.HINT, Messages.MayHint, Statuses.ServesUpTo, Statuses.by_serving, Statuses.by_helping, Statuses.by_want_ahead}
+use Rattle.domserve.proofs.program.run.Goals as goal
 
 pub returns-in-Ok-clause-silent : goal.returns-in-Ok-clause-silent
 returns-in-Ok-clause-silent g c = λ zero.

@@ -1,6 +1,6 @@
 use Rattle.std.proofs.Common.{inr, subst}
 use Rattle.domserve.specs.Messages.{SaysLine}
-use Rattle.domserve.proofs.running.say_hint.Goals as goal
+use Rattle.domserve.proofs.program.say_hint.Goals as goal
 
 pub returns-then-is_terminal : goal.returns-then-is_terminal
 returns-then-is_terminal g c =

@@ -7,8 +7,8 @@ ghost use Rattle.dom_serve.specs.Calls.{HasPassedOn, IsRead, IsWritten};
 ghost use Rattle.dom_serve.specs.Limits.{bounds_of};
 ghost use Rattle.dom_options.specs.CommandLine.{IsInRange, TellsOf, asks_for_help, bounds_asked, faults_in, has_mistake};
 ghost use Rattle.dom_serve.specs.declared.fault.Fault.TheVariants as faults;
-ghost use Rattle.domserve.specs.Messages.{text_of, is_broken_pipe, is_silent, reason_of, IsBecause, SaysLine, SaysBecause, SaysFault, MayHint, SaysHintAndFault};
-ghost use Rattle.domserve.specs.Statuses.{status_at, status_of, IsFailure, TellsFailedRead, TellsFailedWrite, TellsFault, IsServed, IsCutOff, ServesUpTo, IsServedAsAsked, IsHelped, CameTo};
+ghost use Rattle.domserve.specs.Messages.{fault_message, is_broken_pipe, is_silent, reason_of, IsBecause, SaysLine, SaysBecause, SaysFault, MayHint, SaysHintAndFault};
+ghost use Rattle.domserve.specs.Statuses.{status_at, fault_exit_status, IsFailure, ReportsFailedRead, ReportsFailedWrite, ReportsFault, IsServed, IsCutOff, ServesUpTo, IsServedAsAsked, IsHelped, CameTo};
 
 use dom_options::{Refusal, asked_from};
 use dom_serve::{Failed, Fault, LastError, Limits, Sink, Source, serve, write_line};
@@ -25,7 +25,7 @@ const HINT: &str =
 
 /// Returns the beginning of a fault's message.
 pub fn fault_text(fault: &Fault) -> &'static str
-    ensures { result.now ≡ text_of fault.now }
+    ensures { result.now ≡ fault_message fault.now }
 {
     match fault {
         Fault::Read => "domserve: read failed",
@@ -128,7 +128,7 @@ fn say_because<E: Sink>(alloc: Global, errors: &mut E, text: &str, reason: &Opti
 
 /// Writes the message of a fault, and returns its status. A closed pipe has no message.
 fn faulted<E: Sink>(alloc: Global, errors: &mut E, fault: &Fault, reason: Option<Error>) -> u8
-    ensures status { result ≡ status_of fault.now reason }
+    ensures status { result ≡ fault_exit_status fault.now reason }
     ensures says { SaysFault E.writing errors.old errors.new fault.now reason }
 {
     if is_silent(fault, &reason) {
@@ -158,14 +158,14 @@ fn served<R: Source + LastError, W: Sink + LastError, E: Sink>(
     ensures served { result ≡ 0 → IfSome (R.reading.left reader.old)
         (IsServed (bounds_of limits) (W.writing.taken writer.old) (W.writing.taken writer.new)) }
     ensures silent { result ≡ 0 → errors.new ≡ errors.old }
-    ensures told { result ≢ 0 → TellsFault result
+    ensures told { result ≢ 0 → ReportsFault result
         (λ fault. reason_of fault (R.error reader.new) (W.error writer.new))
         (SaysFault E.writing errors.old errors.new)
         (ServesUpTo R.reading W.writing (bounds_of limits)
         reader.old reader.new writer.old writer.new) }
     ensures passed { (IsFailure result → ⊥) → HasPassedOn W.writing writer.old writer.new }
-    ensures reader { TellsFailedRead result (λ failed. IsRead R.reading failed reader.old reader.new) }
-    ensures writer { TellsFailedWrite result (λ failed.
+    ensures reader { ReportsFailedRead result (λ failed. IsRead R.reading failed reader.old reader.new) }
+    ensures writer { ReportsFailedWrite result (λ failed.
         IsWritten W.writing failed writer.old writer.new) }
 {
     match serve(alloc, limits, reader, writer) {
@@ -187,11 +187,11 @@ fn helped<W: Sink + LastError, E: Sink>(
     ensures helped { result ≡ 0 →
         Appends (W.writing.taken writer.old) (W.writing.taken writer.new) text.now }
     ensures silent { result ≡ 0 → errors.new ≡ errors.old }
-    ensures told { result ≢ 0 → (result ≡ status_of faults.Write (W.error writer.new))
+    ensures told { result ≢ 0 → (result ≡ fault_exit_status faults.Write (W.error writer.new))
         × SaysFault E.writing errors.old errors.new faults.Write (W.error writer.new)
         × IsCutOff W.writing writer.old writer.new faults.Write }
     ensures passed { (IsFailure result → ⊥) → HasPassedOn W.writing writer.old writer.new }
-    ensures writer { TellsFailedWrite result (λ failed.
+    ensures writer { ReportsFailedWrite result (λ failed.
         IsWritten W.writing failed writer.old writer.new) }
 {
     match write_line(writer, text.as_bytes()) {
@@ -256,7 +256,7 @@ pub fn run<S: AsStr, R: Source + LastError, W: Sink + LastError, E: Sink>(
 
     // With status 1, 3 and 141 one fault of that status happened. `errors` got the fault's text and the reason of the failed stream, or nothing for a
     // closed pipe.
-    ensures told { result ≢ 0 → result ≢ 2 → TellsFault result
+    ensures told { result ≢ 0 → result ≢ 2 → ReportsFault result
         (λ fault. reason_of fault (R.error reader.new) (W.error writer.new))
         (SaysHintAndFault E.writing is_terminal HINT.now errors.old errors.new)
         (CameTo R.reading W.writing (map S.text words.now)
@@ -266,9 +266,9 @@ pub fn run<S: AsStr, R: Source + LastError, W: Sink + LastError, E: Sink>(
     ensures passed { (IsFailure result → ⊥) → HasPassedOn W.writing writer.old writer.new }
 
     // After a failed read the status is 3, after a failed write or flush 3 or 141. The failed stream is not called again.
-    ensures reader { TellsFailedRead result (λ failed.
+    ensures reader { ReportsFailedRead result (λ failed.
         IsRead R.reading failed reader.old reader.new) }
-    ensures writer { TellsFailedWrite result (λ failed.
+    ensures writer { ReportsFailedWrite result (λ failed.
         IsWritten W.writing failed writer.old writer.new) }
 {
     match limits_from(alloc, words) {

@@ -1,5 +1,5 @@
-use Rattle.domserve.proofs.Said.{line-cut, line-whole}
-use Rattle.domserve.proofs.running.say_line.Goals as goal
+use Rattle.domserve.proofs.SaysFaultLemmas.{line-cut, line-whole}
+use Rattle.domserve.proofs.program.say_line.Goals as goal
 
 pub returns-in-Err : goal.returns-in-Err
 returns-in-Err g c =

@@ -1,8 +1,8 @@
 use Rattle.std.proofs.Common.{◌∙◌, ap, inl, refl, subst, sym}
 use Rattle.dom_serve.specs.Calls.{HasPassedOn, IsRead, IsWritten}
-use Rattle.domserve.specs.{Messages.SaysFault, Statuses.status_of}
-use Rattle.domserve.proofs.Faults.{reader-told, writer-told, passed-told, range-told, not-zero}
-use Rattle.domserve.proofs.running.served.Goals as goal
+use Rattle.domserve.specs.{Messages.SaysFault, Statuses.fault_exit_status}
+use Rattle.domserve.proofs.FaultLemmas.{reader-told, writer-told, passed-told, range-told, not-zero}
+use Rattle.domserve.proofs.program.served.Goals as goal
 
 pub returns-in-Err-clause-range : goal.returns-in-Err-clause-range
 returns-in-Err-clause-range g c = range-told c.in-Err.fault c.reason_of-reason.result c.faulted.result c.faulted.ensures.status
@@ -38,7 +38,7 @@ returns-in-Ok-clause-told g c = λ other. absurd (other refl)
 pub returns-in-Err-clause-told : goal.returns-in-Err-clause-told
 returns-in-Err-clause-told g c = λ other. record {
   fault = c.in-Err.fault;
-  status_is = c.faulted.ensures.status ∙ ap (status_of c.in-Err.fault) c.reason_of-reason.ensures;
+  status_is = c.faulted.ensures.status ∙ ap (fault_exit_status c.in-Err.fault) c.reason_of-reason.ensures;
   says = subst (SaysFault g.E.Sink.writing c.args.errors.now c.faulted.new.errors c.in-Err.fault) c.reason_of-reason.ensures c.faulted.ensures.says;
   comes = c.in-Err.ensures.serves;
 }
