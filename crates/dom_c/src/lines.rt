@@ -9,7 +9,7 @@ ghost use Rattle.dom_wire.specs.Reads.{ReadsCommand};
 ghost use Rattle.dom_c.specs.Lines.{AnswersLine, TakesLine, IsPrinted, IsReply, PrintsLast, PrintsLastIn, step_in};
 
 use crate::handle::Handle;
-use crate::kept::Kept;
+use crate::handle_state::HandleState;
 use crate::status::{HP_CLOSED, HP_NOT_THERE, HP_OK, HP_OUT_OF_MEMORY, status_of};
 use dom_wire::{
     Brief, Command, OutOfMemory, OwnError, ReadError, Reply, Session, read_line, write_reply,
@@ -50,7 +50,7 @@ fn reply_to(
     }
 }
 
-impl Kept {
+impl HandleState {
     // Answers a line, and stores its reply and the reply's line.
     fn answer_line(&mut self, line: &[u8]) -> u8
         ensures steps { TakesLine line.now self.old self.new result }
