@@ -1,6 +1,6 @@
 //! Items by number that are added and released: each has a slot, and the last item moves into the slot of a released one. Each test is a list of
 //! rows.
-use super::playing::expect;
+use super::player::expect;
 use dom_slots::NumberedItems;
 use growth_marks::{Act, begins, ends};
 use std::alloc::{AllocError, Global};
@@ -76,7 +76,12 @@ impl Act for Step {
         NumberedItems::new(alloc)
     }
 
-    fn act(&self, alloc: Global, items: &mut NumberedItems<u32>, turn: u32) -> Result<bool, AllocError> {
+    fn act(
+        &self,
+        alloc: Global,
+        items: &mut NumberedItems<u32>,
+        turn: u32,
+    ) -> Result<bool, AllocError> {
         match self {
             Step::Room(additional) => reserve(items, *additional),
             Step::Make => make(items, turn),

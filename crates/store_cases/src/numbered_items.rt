@@ -3,7 +3,7 @@
 
 ghost use Rattle.std.specs.Prelude.{◌≤◌};
 
-use super::playing::expect;
+use super::player::expect;
 use dom_slots::Numbers;
 use growth_marks::{Act, begins, ends};
 use std::alloc::{AllocError, Global};
