@@ -5,7 +5,7 @@ ghost use Rattle.std.specs.Option.{ForSome};
 ghost use Rattle.dom_traverse.specs.Items.{iterator_in, StandsInside};
 
 use super::filters::{filter, root_of};
-use super::playing::expect;
+use super::player::expect;
 use super::tree::{Step as TreeStep, grow};
 use dom_traverse::{IteratorId, NodeIterators};
 use dom_tree::{NodeId, Tree};
