@@ -2,7 +2,7 @@
 
 use crate::scenes::{Call, Fact, Part, Row, When, played};
 use dom_kinds::DomError;
-use dom_observe::{Options, RawOptions, settle};
+use dom_observe::{Options, RawOptions, resolve_options};
 use std::alloc::{AllocError, Global};
 use std::process::Abort;
 use std::test::Fail;
@@ -78,7 +78,7 @@ fn given(alloc: Global, setting: &Setting) -> RawOptions {
 
 // Settles the options of a setting, and compares the outcome.
 fn settle_one(rt: &impl Abort, alloc: Global, setting: &Setting) {
-    let settled = match settle(given(alloc, setting)) {
+    let settled = match resolve_options(given(alloc, setting)) {
         Ok(options) => Some((
             options.attributes,
             options.attribute_old_value,
@@ -124,7 +124,7 @@ fn is_by_id(rt: &impl Abort, options: &Options) {
 #[test]
 fn options_are_copied(rt: HostRuntime) -> Result<(), Fail> {
     let given = by_id(rt.alloc())?;
-    match settle(given) {
+    match resolve_options(given) {
         Ok(options) => is_by_id(&rt, &options.try_clone(rt.alloc())?),
         Err(_) => assert!(rt; false),
     }
