@@ -4,9 +4,7 @@
 #[cfg(test)]
 mod attributes;
 #[cfg(test)]
-mod building;
-#[cfg(test)]
-mod cloning;
+mod clones;
 #[cfg(test)]
 mod contents;
 #[cfg(test)]
@@ -14,14 +12,16 @@ mod copies;
 #[cfg(test)]
 mod documents;
 #[cfg(test)]
-mod editing;
-#[cfg(test)]
 mod facts;
+#[cfg(test)]
+mod range_insertion;
 #[cfg(test)]
 mod scenes;
 #[cfg(test)]
+mod small_world;
+#[cfg(test)]
 mod texts;
 #[cfg(test)]
-mod worlds;
+mod tree_edits;
 #[cfg(test)]
-mod wrapping;
+mod worlds;

@@ -8,7 +8,7 @@ use crate::facts::held;
 use crate::scenes::{Call, New, Row};
 use dom_edit::{Content, Refusal, World};
 use dom_kinds::{Kind, Label};
-use dom_observe::{ObserverId, RawOptions, settle};
+use dom_observe::{ObserverId, RawOptions, resolve_options};
 use dom_tree::NodeId;
 use dom_units::Units;
 use std::alloc::{AllocError, Global};
@@ -126,7 +126,7 @@ pub(crate) fn watch(rt: &impl Abort, world: &mut World, node: u32) -> Result<(),
     let observer = ObserverId::new(0);
     let node = held(rt, world, node);
     assert!(rt; world.observers.holds(observer));
-    match settle(all_below()) {
+    match resolve_options(all_below()) {
         Ok(options) => world.observers.observe(observer, node, options),
         Err(_) => {
             assert!(rt; false, "these options are in order");
