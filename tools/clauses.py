@@ -1,12 +1,13 @@
 #!/usr/bin/env python3
-"""Tests that each word of a clause or a definition stands in specs, so that contracts are read without opening a proof, and that the definitions
-are read from front to back.
+"""Tests that each word of a clause or a definition stands in specs, so that contracts are read without opening a proof, that no two crates define the
+same word, and that the definitions are read from front to back.
 
 Looked at are the imports of crates/*/src (`ghost use`) and of crates/*/specs: none may name words of a file of proofs. In crates/dom_model/specs,
 Lib.antt and the file beside each folder name folders and files in reading order: a definition uses words of its own file and of those ahead of it
-alone. Prints each import that fails, and fails then.
+alone. Prints each import and each word that fails, and fails then.
 """
 import argparse
+import collections
 import glob
 import os
 import re
@@ -15,6 +16,9 @@ import sys
 ROOT = os.path.dirname(os.path.dirname(os.path.realpath(__file__)))
 MODEL = f"{ROOT}/crates/dom_model/specs"
 USE = re.compile(r"^\s*(?:ghost )?(?:pub )?use (Rattle\.\w+\.(?:specs|proofs)\.[\w.+]+?)(?:\.\{[^}]*\}| as \w+)?;?$", re.M)
+
+# The line that defines a word: not one that names a file, or passes a word on.
+DEFINED = re.compile(r"^(?:(?:abbrev|unfoldable) )?pub (?!use |mod )(?:(?:record|data|abbrev) )?([^\s:({]+)", re.M)
 
 
 def text_of(file):
@@ -45,6 +49,16 @@ def back_edges():
     return bad + [f"{it}: no file names it in reading order" for it in sorted(files - set(order))]
 
 
+def defined_twice():
+    """Returns what is said of each word of clauses that two crates define: a word has one meaning, so that a reader finds it by its name alone."""
+    homes = collections.defaultdict(dict)
+    for file in sorted(glob.glob(f"{ROOT}/crates/*/specs/**/*.antt", recursive=True)):
+        path = os.path.relpath(file, ROOT)
+        for word in DEFINED.findall(text_of(file)):
+            homes[word].setdefault(path.split("/")[1], path)
+    return [f"{word}: defined in {' and '.join(its.values())}" for word, its in sorted(homes.items()) if len(its) > 1]
+
+
 def main():
     argparse.ArgumentParser(description=__doc__, formatter_class=argparse.RawDescriptionHelpFormatter).parse_args()
     bad, seen = [], 0
@@ -54,9 +68,10 @@ def main():
             seen += 1
             if ".proofs." in module and module.split(".")[1] in os.listdir(f"{ROOT}/crates"):
                 bad.append(f"{os.path.relpath(file, ROOT)}:{line}: {module} stands in proofs")
-    later = back_edges()
-    print("\n".join([*bad, *later, f"{seen} imports of clauses and definitions, {len(bad)} from proofs; {len(later)} definitions ahead of what they use"]))
-    return 1 if bad or later else 0
+    later, twice = back_edges(), defined_twice()
+    counts = f"{len(bad)} from proofs; {len(later)} definitions ahead of what they use; {len(twice)} words of clauses in two crates"
+    print("\n".join([*bad, *later, *twice, f"{seen} imports of clauses and definitions, {counts}"]))
+    return 1 if bad or later or twice else 0
 
 
 if __name__ == "__main__":
