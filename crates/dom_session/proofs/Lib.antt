@@ -16,4 +16,5 @@ pub mod OtherKinds
 pub mod Unfelt
 pub mod ContentsAnswers
 pub mod Laying
+pub mod Subtrees
 pub mod WorldsKept

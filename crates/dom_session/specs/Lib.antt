@@ -8,5 +8,6 @@ pub mod Printing
 pub mod Codes
 pub mod Links
 pub mod Lending
+pub mod Subtree
 pub mod InUse
 pub mod Ending

@@ -29,6 +29,7 @@ mod reply;
 mod session;
 mod setting;
 mod statics;
+mod subtree;
 mod texts;
 mod traversing;
 
@@ -50,3 +51,4 @@ pub use in_use::Counts;
 pub use links::Links;
 pub use reply::{Answer, Description, Reply, TreeRow};
 pub use session::{Ended, Limits, Session};
+pub use subtree::{NodeRow, SubtreeNode, SubtreePart};
