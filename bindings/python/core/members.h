@@ -455,12 +455,26 @@ static bool has_first_child(hp_session *session, uint32_t node, uint32_t *child,
     return hp_first_child(session, node, child) == HP_OK && *child != HP_NONE && hp_links(session, *child, links) == HP_OK;
 }
 
-/* Whether a node has one child, which is a Text: its data is lent. */
-static bool is_one_text(hp_session *session, uint32_t node, hp_text_view *to)
+/* Whether the tree that was gone through last has a node with one child, which is a Text. The nodes of a parser or a copy are numbered in tree order,
+ * so that the place of one is most often told by its number. */
+static bool is_one_text_known(const Order *order, uint32_t node, uint32_t *child)
 {
+    size_t at = order->length ? (size_t)node - order->at[0].number : 0;
+    if (at + 1 >= order->length || order->at[at].number != node)
+        return false;
+    const Ranked *it = &order->at[at];
+    *child = it[1].number;
+    return it[1].kind == KIND_TEXT && it[1].depth > it->depth && (at + 2 == order->length || it[2].depth <= it->depth);
+}
+
+/* Whether a node has one child, which is a Text: its data is lent. */
+static bool is_one_text(Calls *calls, uint32_t node, hp_text_view *to)
+{
+    hp_session *session = &calls->session;
     uint32_t child = HP_NONE;
     hp_node_links links;
-    if (!has_first_child(session, node, &child, &links) || links.kind != KIND_TEXT || links.next != HP_NONE)
+    bool is_one = is_one_text_known(&calls->order, node, &child);
+    if (!is_one && (!has_first_child(session, node, &child, &links) || links.kind != KIND_TEXT || links.next != HP_NONE))
         return false;
     return hp_data_of(session, child, to) == HP_OK;
 }
@@ -472,7 +486,7 @@ static PyObject *node_text_content(PyObject *self, PyObject *nothing)
     if (is_busy(((Thing *)self)->calls))
         return NULL;
     hp_text_view view;
-    if (is_one_text(session_of(self), number_of(self), &view))
+    if (is_one_text(((Thing *)self)->calls, number_of(self), &view))
         return text_from(view.units, view.length);
     uint8_t status = hp_text_content(session_of(self), number_of(self));
     return status ? refused_of(status, "text_content", self, NULL, 0) : text_answer(session_of(self));
@@ -518,7 +532,7 @@ static PyObject *node_text(PyObject *self, PyObject *nothing)
         return NULL;
     hp_text_view view;
     uint32_t child = HP_NONE;
-    if (is_one_text(session_of(self), number_of(self), &view))
+    if (is_one_text(((Thing *)self)->calls, number_of(self), &view))
         return text_from(view.units, view.length);
     uint8_t status = hp_first_child(session_of(self), number_of(self), &child);
     return status ? refused_of(status, "first_child", self, NULL, 0) : texts_from(session_of(self), child);

@@ -390,7 +390,7 @@ static PyObject *read_text_content(PyObject *self, PyObject *node, const void *h
     hp_text_view view;
     if (!own_node_of(self, node, &number))
         return NULL;
-    return is_one_text(session_at(self), number, &view) ? text_from(view.units, view.length) : read_answer(self, node, how);
+    return is_one_text((Calls *)self, number, &view) ? text_from(view.units, view.length) : read_answer(self, node, how);
 }
 
 static PyObject *read_data(PyObject *self, PyObject *node, const void *how)

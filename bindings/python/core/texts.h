@@ -229,17 +229,31 @@ static PyObject *name_from(const uint8_t *octets, size_t length)
     return PyUnicode_DecodeUTF8((const char *)octets, (Py_ssize_t)length, "strict");
 }
 
-/* Units below 256. */
+/* Octets that are characters, all of which have only some bits. Of ASCII, Python makes a str quickest as of UTF-8. */
+static PyObject *octets_from(const char *octets, size_t length, unsigned bits)
+{
+    return bits < 0x80 ? PyUnicode_DecodeUTF8(octets, (Py_ssize_t)length, NULL) : PyUnicode_DecodeLatin1(octets, (Py_ssize_t)length, NULL);
+}
+
+/* Puts units down as octets. Returns the bits that they have. */
+static unsigned narrowed(const uint16_t *units, size_t length, char *to)
+{
+    unsigned bits = 0;
+    for (size_t at = 0; at < length; at++) {
+        bits |= units[at];
+        to[at] = (char)units[at];
+    }
+    return bits;
+}
+
+/* Units below 256, which are too many for the stack. */
 static PyObject *narrow_from(const uint16_t *units, size_t length)
 {
-    char room[ROOM] = "", *octets = length <= ROOM ? room : PyMem_Malloc(length);
+    char *octets = PyMem_Malloc(length);
     if (!octets)
         return PyErr_NoMemory();
-    for (size_t at = 0; at < length; at++)
-        octets[at] = (char)units[at];
-    PyObject *found = PyUnicode_DecodeLatin1(octets, (Py_ssize_t)length, NULL);
-    if (octets != room)
-        PyMem_Free(octets);
+    PyObject *found = octets_from(octets, length, narrowed(units, length, octets));
+    PyMem_Free(octets);
     return found;
 }
 
@@ -281,18 +295,31 @@ static PyObject *wide_from(const uint16_t *units, size_t length)
 #endif
 }
 
-static PyObject *text_from(const uint16_t *units, size_t length)
+/* Units of which some are not below 256. */
+static PyObject *broad_from(const uint16_t *units, size_t length)
 {
-    unsigned all = 0;
-    for (size_t at = 0; at < length; at++)
-        all |= units[at];
-    if (all < 0x100)
-        return narrow_from(units, length);
     if (!is_well_formed(units, length))
         return wide_from(units, length);
     const uint16_t one = 1;
     int order = *(const uint8_t *)&one ? -1 : 1;
     return PyUnicode_DecodeUTF16((const char *)units, (Py_ssize_t)(2 * length), "strict", &order);
+}
+
+static PyObject *long_text_from(const uint16_t *units, size_t length)
+{
+    unsigned bits = 0;
+    for (size_t at = 0; at < length; at++)
+        bits |= units[at];
+    return bits < 0x100 ? narrow_from(units, length) : broad_from(units, length);
+}
+
+static PyObject *text_from(const uint16_t *units, size_t length)
+{
+    char octets[ROOM];
+    if (length > ROOM)
+        return long_text_from(units, length);
+    unsigned bits = narrowed(units, length, octets);
+    return bits < 0x100 ? octets_from(octets, length, bits) : broad_from(units, length);
 }
 
 #endif
