@@ -69,9 +69,6 @@ COUNTS = re.compile(rb"growths (\d+), refused (\d+), left (-?\d+), most (\d+)\n"
 # How a test says that memory was wanting: by its answer, or at its assertion that memory was there.
 SAYS = re.compile(rb"^error: Alloc(Error|Failed \{ \.\. \})$", re.M)
 ASSERTS = re.compile(rb"^(assertion failed: ([a-z_]+\.is_ok\(\)|through_a_pointer\(rt\.alloc\(\)\) == Some\(.*\))|  left: Err\(Failed\))$", re.M)
-# Modules whose scenes name nodes by numbers, some of which a refused call may use: these may then end at an assertion of their own about other nodes.
-NUMBERED = {("edit_cases", "documents")}
-OF_SCENES = re.compile(rb"^test stopped at src/(facts|scenes)\.rt:\d+:\d+$", re.M)
 VALGRIND = ["valgrind", "-q", "--soname-synonyms=somalloc=nouserintercepts", "--error-exitcode=9"]
 VALGRIND += ["--leak-check=full", "--show-leak-kinds=all", "--errors-for-leak-kinds=all"]
 
@@ -107,7 +104,6 @@ class Test:
     def __init__(self, crate, name, library):
         self.crate, self.name, self.library = crate, name, library
         self.must_pass = name.partition("::")[0] in CRATES[crate] or (crate, name) in STAND
-        self.is_numbered = (crate, name.partition("::")[0]) in NUMBERED
 
     def __str__(self):
         return f"{self.crate} {self.name}"
@@ -128,8 +124,7 @@ class Test:
         """With one growth refused it passes, or says that memory was wanting."""
         found = self.run(REFUSE_AT=str(growth))
         told = found.out + found.said
-        is_told = ASSERTS.search(told) or (self.is_numbered and OF_SCENES.search(told))
-        if found.status == -6 and is_told and not self.must_pass:
+        if found.status == -6 and ASSERTS.search(told) and not self.must_pass:
             return
         if found.refused == 0 or (found.status != 0 and (self.must_pass or found.status != 101 or not SAYS.search(told))):
             raise Wrong(f"status {found.status}, {found.refused} refused: {told.decode(errors='replace')}")

@@ -17,10 +17,10 @@ HEAD = """\
  * Documents by the DOM Standard. Made by bindings/c/header.py from the exports of the library; not to be edited.
  *
  * Every call answers a status: HP_OK, or why it was refused. A refused call changes nothing of the session, and leaves what its out
- * pointers point at. Every call with a session can also answer HP_CLOSED. One that takes memory can answer HP_OUT_OF_MEMORY: the session
- * has then ended, and so answers every later command. What it holds is read still, by the calls that answer HP_ENDED in place of HP_OK:
- * each held node with its names and attributes, static ranges and walkers as before that call, all ranges, iterators and observers.
- * hp_close frees all of it.
+ * pointers point at. Every call with a session can also answer HP_CLOSED. One that takes memory can answer HP_OUT_OF_MEMORY. A question,
+ * or a call that makes an object, has then changed nothing, and the session goes on. Another call ends the session, which so answers every
+ * later command. Its state can still be read, by the calls that answer HP_ENDED in place of HP_OK: each held node with its names and
+ * attributes, static ranges and walkers as before that call, all ranges, iterators and observers. hp_close frees all of it.
  *
  * Objects are told by numbers, each kind from 0 on, and no number is used again. Node 0 is a Document. HP_NONE stands for null.
  * Names are UTF-8: bytes and their count. Texts are UTF-16: units and their count. Null with a count of 0 is an empty one.

@@ -8,6 +8,7 @@
 - how many objects of each kind there are, as they come and go, told with no memory taken;
 - what is released, which no call finds and which keeps no tree, and the memory after a million of each kind;
 - each allocation refused in turn over all dialogues, and over one of the calls that copy names and texts;
+- a session that goes on after each question and each making that was refused memory, compared with one that was never asked;
 - a session that has ended, read whole and compared with what it held before the call that was refused memory;
 - two sessions on two threads, and deeply nested lines on a thread with a small stack;
 - the examples, as docs/c-library.md shows them; of the one that loads HTML also that libxml2's own tree of what it writes is that of what it read;
@@ -180,6 +181,9 @@ class Tests:
             self.say(f"under valgrind, in steps of {self.given.step}: {(out or b'FAILED').decode().strip()}")
         self.alone("refused_calls", link=WRAPPED)
 
+    def goes_on(self):
+        self.alone("goes_on", link=WRAPPED)
+
     def ended(self):
         self.alone("ended", link=WRAPPED)
 
@@ -270,7 +274,7 @@ class Tests:
         return 1 if self.faults else 0
 
 
-PARTS = ("header", "lines", "typed", "closed", "misuse", "nearby", "counted", "released", "refused", "ended", "threads", "stacks", "example", "loading", "page")
+PARTS = ("header", "lines", "typed", "closed", "misuse", "nearby", "counted", "released", "refused", "goes_on", "ended", "threads", "stacks", "example", "loading", "page")
 
 
 def main():

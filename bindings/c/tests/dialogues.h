@@ -104,6 +104,9 @@ static inline uint8_t say(hp_session *session, const uint8_t *line, size_t lengt
     char error[80];
     uint8_t status = hp_line(session, line, length), lends = hp_reply_line(session, reply);
     int size = snprintf(error, sizeof error, "{\"error\":\"%s\"}\n", hp_status_word(status));
+    /* (a session that goes on still lends the line before) */
+    if (status == HP_OUT_OF_MEMORY && lends == HP_OK)
+        return status;
     if (status == HP_OUT_OF_MEMORY || status == HP_CLOSED)
         return lends == status && reply->length == 0 ? status : 255;
     if (lends != HP_OK || reply->length == 0)

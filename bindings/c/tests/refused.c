@@ -1,9 +1,19 @@
 /* Each allocation of each dialogue refused in turn: refused STEP ([--line BYTES] [--numbers N] LINES REPLIES)..
- * Up to the refusal the replies are the ones that are due; from then on each call says that memory was wanting; and hp_close leaves
- * nothing in use. A smaller block that is refused, in place of one that has more room than is needed, is not told: then all replies
+ * Up to the refusal the replies are the ones that are due. If the session goes on, the line is said again, and all replies are due. Else it
+ * has ended, and each call says so. hp_close leaves nothing in use. A smaller block that is refused, in place of one that has more room than is needed, is not told: then all replies
  * are there, as due; this may be so of one refusal in twenty. Linked with --wrap for malloc, realloc and free. */
 #include "dialogues.h"
 #include "refusing.h"
+
+/* Whether a session that was refused memory goes on. */
+static bool goes_on(hp_session *session)
+{
+    hp_counts now;
+    return hp_in_use(session, &now) == HP_OK;
+}
+
+/* Lines that were said again. */
+static unsigned long again;
 
 /* Says all lines; returns the first fault, or NULL. `was_refused` tells whether the session said that memory was wanting. */
 static const char *run(hp_session *session, const struct dialogue *it, bool *was_refused)
@@ -13,6 +23,12 @@ static const char *run(hp_session *session, const struct dialogue *it, bool *was
         size_t length = line_length(&it->given, at);
         hp_bytes reply;
         uint8_t status = say(session, it->given.bytes + at, length, &reply);
+        if (status == HP_OUT_OF_MEMORY && goes_on(session)) {
+            again++;
+            status = say(session, it->given.bytes + at, length, &reply);
+            if (status == HP_OUT_OF_MEMORY)
+                return "a second refusal";
+        }
         at += length + 1;
         if (status == 255 || status == HP_CLOSED || (*was_refused && status != HP_OUT_OF_MEMORY))
             return "a status that does not belong to what is lent, or another after memory was wanting";
@@ -35,6 +51,7 @@ static const char *once(const struct dialogue *it, unsigned long at, bool *was_m
     hp_session session = HP_SESSION_INIT;
     const char *fault = NULL;
     bool was_refused = false;
+    unsigned long said_again = again;
     refuse(at);
     uint8_t status = hp_open(&session, it->numbers, it->line);
     if (status == HP_OK) {
@@ -50,7 +67,7 @@ static const char *once(const struct dialogue *it, unsigned long at, bool *was_m
         fault = "the session is still open";
     if (!fault && (status == HP_OUT_OF_MEMORY || was_refused) && !*was_met)
         fault = "memory was wanting where none was refused";
-    untold += *was_met && status == HP_OK && !was_refused;
+    untold += *was_met && status == HP_OK && !was_refused && again == said_again;
     return fault || in_use == 0 ? fault : "something is in use after hp_close";
 }
 
@@ -77,7 +94,7 @@ int main(int count, char **words)
     int n = dialogues(count, words, 2, found);
     for (int i = 0; i < n; i++)
         runs += turns(&found[i], step);
-    printf("%d dialogues, %lu runs with an allocation refused, %lu of which were smaller blocks\n", n, runs, untold);
+    printf("%d dialogues, %lu runs with an allocation refused; in %lu the line was said again, and %lu were smaller blocks\n", n, runs, again, untold);
     forget(found, n);
-    return untold * 20 > runs;
+    return untold * 20 > runs || !again;
 }

@@ -1,5 +1,5 @@
-/* Each allocation of a scene of calls refused in turn: calls that copy names, texts, lists of names and trees. Each call then says that
- * memory was wanting, now and from then on, and hp_close leaves nothing in use. A smaller block that is refused, in place of one that has
+/* Each allocation of a scene of calls refused in turn: calls that copy names, texts, lists of names and trees. If the session goes on, the
+ * call is made again, and all pass. Else it has ended, and each call says so. hp_close leaves nothing in use. A smaller block that is refused, in place of one that has
  * more room than is needed, is not told; this may be so of one refusal in twenty. Linked with --wrap for malloc, realloc and free. */
 #include "huckleport.h"
 #include "refusing.h"
@@ -47,6 +47,8 @@ static uint8_t call(hp_session *session, int number)
     }
 }
 
+/* Calls that were made again. */
+static unsigned long again;
 /* Runs in which the refusal was met and no call told of it. */
 static unsigned long untold;
 
@@ -55,11 +57,18 @@ static const char *once(unsigned long at, bool *was_met, int *where)
 {
     hp_session session = HP_SESSION_INIT;
     const char *fault = NULL;
+    unsigned long made_again = again;
     refuse(at);
     uint8_t status = hp_open(&session, 100, 100);
     bool was_refused = status == HP_OUT_OF_MEMORY;
     for (*where = 0; status == HP_OK && *where < CALLS && !fault; ++*where) {
         uint8_t said = call(&session, *where);
+        hp_counts now;
+        if (said == HP_OUT_OF_MEMORY && hp_in_use(&session, &now) == HP_OK) {
+            again++;
+            said = call(&session, *where);
+            fault = said == HP_OUT_OF_MEMORY ? "a second refusal" : NULL;
+        }
         if (said != (was_refused ? HP_OUT_OF_MEMORY : HP_OK) && said != HP_OUT_OF_MEMORY)
             fault = hp_status_word(said);
         was_refused = was_refused || said == HP_OUT_OF_MEMORY;
@@ -68,7 +77,7 @@ static const char *once(unsigned long at, bool *was_met, int *where)
         fault = "hp_close did not close";
     counts = false;
     *was_met = asked >= at;
-    untold += *was_met && !was_refused;
+    untold += *was_met && !was_refused && again == made_again;
     if (!fault && was_refused && !*was_met)
         fault = "memory was wanting where none was refused";
     if (!fault && (session.is_open || in_use != 0))
@@ -88,6 +97,6 @@ int main(void)
             return 1;
         }
     }
-    printf("%d calls, %lu runs with an allocation refused, %lu of which were smaller blocks\n", CALLS, at - 1, untold);
-    return untold * 20 > at - 1;
+    printf("%d calls, %lu runs with an allocation refused; in %lu the call was made again, and %lu were smaller blocks\n", CALLS, at - 1, again, untold);
+    return untold * 20 > at - 1 || !again;
 }

@@ -180,7 +180,7 @@ test("lists and ids stay right while the tree changes", () => {
   assert.equal(document.documentElement.namespaceURI, HTML);
 });
 
-test("the memory of the module can be bounded, and what is refused then ends its session alone", () => {
+test("the memory of the module can be bounded, and a making that is refused ends no session", () => {
   const session = new Session();
   const other = new Session();
   memory.limit(memory.size + 262144);
@@ -189,13 +189,14 @@ test("the memory of the module can be bounded, and what is refused then ends its
     assert.throws(() => {
       for (;;) made.push(session.document.createTextNode("x".repeat(10000)));
     }, RangeError);
-    assert.throws(() => session.document.createElement("p"), RangeError);
   } finally {
     memory.limit(0);
-    session.close();
   }
   assert.ok(made.length > 0);
+  assert.equal(made.at(-1).data.length, 10000);
+  assert.equal(session.document.createElement("p").nodeName, "P");
   assert.equal(other.document.createElement("p").nodeName, "P");
+  session.close();
 });
 
 test("a session that has ended is read and serialized as before, and no other ends", () => {
@@ -217,7 +218,7 @@ test("a session that has ended is read and serialized as before, and no other en
   memory.limit(memory.size + 262144);
   try {
     assert.throws(() => {
-      for (const made = []; ; ) made.push(document.createTextNode("x".repeat(10000)));
+      for (const made = []; ; ) made.push(item.cloneNode(true));
     }, RangeError);
   } finally {
     memory.limit(0);

@@ -62,7 +62,7 @@ class InUse(Error):
 
 
 class OutOfMemory(Error, MemoryError):
-    """Out of memory, now or before: the session has ended. What it holds can still be read and serialized."""
+    """Out of memory: nothing has changed and the session goes on, or it has ended, now or before. It can still be read and serialized."""
 
 
 class SessionClosed(Error, ValueError):

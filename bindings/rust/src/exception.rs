@@ -57,7 +57,7 @@ exceptions! {
     BadJson, HP_BAD_JSON, "bad-json", "the line is not JSON";
     BadCommand, HP_BAD_COMMAND, "bad-command", "the line does not begin with the name of a command";
     BadArguments, HP_BAD_ARGUMENTS, "bad-arguments", "the line has other arguments than its command";
-    OutOfMemory, HP_OUT_OF_MEMORY, "out-of-memory", "out of memory, now or before: the session has ended, and can still be read and serialized";
+    OutOfMemory, HP_OUT_OF_MEMORY, "out-of-memory", "out of memory: nothing has changed, and the session goes on; or it has ended, and can still be read and serialized";
     BadLimits, HP_BAD_LIMITS, "bad-limits", "the limits of the session are out of their range";
     BadLengths, HP_BAD_LENGTHS, "bad-lengths", "a name in a list is longer than 4294967295 bytes";
 }

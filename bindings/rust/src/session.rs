@@ -81,7 +81,7 @@ impl Session {
         }
     }
 
-    /// Whether the session has ended, since an allocation was refused. It can then be read and serialized; what changes it answers
+    /// Whether the session has ended, since an edit was refused memory. It can then be read and serialized; what changes it answers
     /// [`Exception::OutOfMemory`].
     ///
     /// ```

@@ -5,3 +5,4 @@ pub mod OpenReads
 pub mod Copies
 pub mod Faults
 pub mod Asked
+pub mod Spared

@@ -1,11 +1,11 @@
 -- What a call does: its status, the reply that is kept, and the session afterwards.
-use Rattle.std.specs.Prelude.{◌≡◌, ℕ, Bool, true, false, Option, Some, None, option_map, Result, Ok, Err}
+use Rattle.std.specs.Prelude.{◌≡◌, ◌⊎◌, ℕ, Bool, true, false, Option, Some, None, option_map, Result, Ok, Err}
 use Rattle.dom_model.specs.Worlds.World.{World}
 use Rattle.dom_model.specs.Commands.Command.{Command}
 use Rattle.dom_model.specs.Commands.Reply as model
 use Rattle.dom_model.specs.Commands.Answer.{Step, answer}
 use Rattle.dom_session.specs.declared.reply.Reply.{Reply}
-use Rattle.dom_wire.specs.Sessions.{StandsFor, held_world, reply_view}
+use Rattle.dom_wire.specs.Sessions.{StandsFor, IsAsBefore, held_world, goes_on, reply_view}
 use Rattle.dom_c.specs.Statuses.{status_of, status_at_end, out_of_memory, closed}
 use Rattle.dom_c.specs.declared.kept.Kept.{Kept}
 use Rattle.dom_c.specs.declared.handle.Handle.{Handle}
@@ -24,31 +24,45 @@ Goes (Ok step) None old new status = ⊥
 Goes (Ok step) (Some reply) old new status = IsTaken reply old new step status
 Goes (Err malformed) reply old new status = (new ≡ old) × (status ≡ malformed)
 
--- memory was wanting, now or before, and nothing more is answered; or all went on
+-- memory was refused before anything had changed, and the last reply is still the one that is kept
+pub record IsSpared (old new : Kept) (status : ℕ) : Type 0 where
+  pub status_is : status ≡ out_of_memory
+  pub session : IsAsBefore old.session new.session
+  pub reply : new.reply ≡ old.reply
+  pub line : new.line ≡ old.line
+
+-- the session has ended, now or before, and nothing more is answered; or it goes on: the step was taken, or was refused memory
 abbrev pub Ends : Bool → Result (World → Step) ℕ → Kept → Kept → ℕ → Type 0
 Ends true step old new status = status ≡ out_of_memory
-Ends false step old new status = (old.ended ≡ false) × Goes step (option_map reply_view new.reply) old new status
+Ends false step old new status = (old.ended ≡ false) × (Goes step (option_map reply_view new.reply) old new status ⊎ IsSpared old new status)
 
-pub record Steps (step : Result (World → Step) ℕ) (old new : Kept) (status : ℕ) : Type 0 where
-  pub ends : Ends new.ended step old new status
-  pub bounds : new.session.bounds ≡ old.session.bounds
-  pub limit : new.limit ≡ old.limit
-  pub line : new.line ≡ old.line
+-- whether an open session goes on, also if memory is refused
+abbrev pub spares : Result Command ℕ → Bool
+spares (Ok c) = goes_on c
+spares (Err malformed) = true
 
 -- the step of a command, or the status of arguments that make none
 abbrev pub step_for : Kept → Result Command ℕ → Result (World → Step) ℕ
 step_for old (Ok c) = Ok (λ w. answer old.session.bounds w c)
 step_for old (Err malformed) = Err malformed
 
+pub record Steps (c : Result Command ℕ) (old new : Kept) (status : ℕ) : Type 0 where
+  pub ends : Ends new.ended (step_for old c) old new status
+  pub goes_on : spares c ≡ true → old.session.ended ≡ false → new.ended ≡ old.ended
+  pub is_open : old.session.ended ≡ false → new.ended ≡ false → new.session.ended ≡ false
+  pub bounds : new.session.bounds ≡ old.session.bounds
+  pub limit : new.limit ≡ old.limit
+  pub line : new.line ≡ old.line
+
 -- a closed handle says so
-abbrev pub StepsIn : (Kept → Result (World → Step) ℕ) → Option Kept → Option Kept → ℕ → Type 0
-StepsIn step None new status = (new ≡ None) × (status ≡ closed)
-StepsIn step (Some old) None status = ⊥
-StepsIn step (Some old) (Some new) status = Steps (step old) old new status
+abbrev pub StepsIn : Result Command ℕ → Option Kept → Option Kept → ℕ → Type 0
+StepsIn c None new status = (new ≡ None) × (status ≡ closed)
+StepsIn c (Some old) None status = ⊥
+StepsIn c (Some old) (Some new) status = Steps c old new status
 
 -- what a call for a command does
 abbrev pub Answers : Handle → Handle → Result Command ℕ → ℕ → Type 0
-Answers old new c status = StepsIn (λ kept. step_for kept c) old.slot.kept new.slot.kept status
+Answers old new c status = StepsIn c old.slot.kept new.slot.kept status
 
 -- What a question that takes no memory does once the session has ended: its reply is the one of the world that is held, and is kept.
 pub record IsAskedAtEnd (c : Command) (old new : Kept) (status : ℕ) : Type 0 where
@@ -67,7 +81,7 @@ AsksAtEnd (Err malformed) old new status = (new ≡ old) × (status ≡ malforme
 -- while the session goes on, a question is taken as a command
 abbrev pub AsksOrEnded : Bool → Result Command ℕ → Kept → Kept → ℕ → Type 0
 AsksOrEnded true c old new status = AsksAtEnd c old new status
-AsksOrEnded false c old new status = Steps (step_for old c) old new status
+AsksOrEnded false c old new status = Steps c old new status
 
 -- a closed handle says so
 abbrev pub AsksKept : Result Command ℕ → Option Kept → Option Kept → ℕ → Type 0

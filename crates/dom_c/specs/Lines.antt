@@ -1,5 +1,5 @@
 -- What a line of JSON does.
-use Rattle.std.specs.Prelude.{◌≡◌, ℕ, Bool, true, false, List, Option, Some, None, option_map, Result, Ok}
+use Rattle.std.specs.Prelude.{◌≡◌, ◌⊎◌, ℕ, nat_eq, Bool, true, false, List, Option, Some, None, option_map, Result, Ok}
 use Rattle.dom_model.specs.Worlds.World.{World}
 use Rattle.dom_model.specs.Commands.Reply.{Reply}
 use Rattle.dom_model.specs.Commands.Answer.{Step}
@@ -20,18 +20,18 @@ step_in s limit line w = step_of s.bounds (command_within whole_table limit line
 abbrev pub step_for_line : List ℕ → Kept → Result (World → Step) ℕ
 step_for_line line old = Ok (step_in old.session old.limit line)
 
--- unless memory was wanting, the line that is kept is the one of the reply that is kept, with its newline
+-- unless memory was refused, the line that is kept is the one of the reply that is kept, with its newline
 abbrev pub Prints : Bool → Option Reply → List ℕ → Type 0
 Prints false (Some reply) line = line ≡ reply_line reply
 Prints false None line = ⊥
 Prints true reply line = Unit {0}
 
-abbrev pub IsPrinted : Kept → Type 0
-IsPrinted k = Prints k.ended (option_map reply_view k.reply) k.line.items
+abbrev pub IsPrinted : ℕ → Kept → Type 0
+IsPrinted status k = Prints (nat_eq status out_of_memory) (option_map reply_view k.reply) k.line.items
 
-abbrev pub IsPrintedIn : Option Kept → Type 0
-IsPrintedIn None = Unit {0}
-IsPrintedIn (Some k) = IsPrinted k
+abbrev pub IsPrintedIn : ℕ → Option Kept → Type 0
+IsPrintedIn status None = Unit {0}
+IsPrintedIn status (Some k) = IsPrinted status k
 
 -- the step of a line is taken, as that of a command, but for the line that is kept
 pub record TakesLine (line : List ℕ) (old new : Kept) (status : ℕ) : Type 0 where
@@ -47,7 +47,7 @@ TakesLineIn line (Some old) (Some new) status = TakesLine line old new status
 
 pub record AnswersLine (old new : Handle) (line : List ℕ) (status : ℕ) : Type 0 where
   pub steps : TakesLineIn line old.slot.kept new.slot.kept status
-  pub printed : IsPrintedIn new.slot.kept
+  pub printed : IsPrintedIn status new.slot.kept
 
 -- the reply to a line is the one of the step, and the session took it
 pub record IsReply (reply : Reply) (old new : Held) (step : World → Step) : Type 0 where
@@ -59,17 +59,22 @@ abbrev pub SaysLast : Option Reply → List ℕ → List ℕ → ℕ → Type 0
 SaysLast None old new status = (new ≡ old) × (status ≡ not_there)
 SaysLast (Some reply) old new status = (new ≡ reply_line reply) × (status ≡ 0)
 
--- the same, or memory was wanting, now or before
+-- the line that is kept is still the one before, since there was no memory for another
+abbrev pub IsUnprinted : Kept → Kept → ℕ → Type 0
+IsUnprinted old new status = (new.line ≡ old.line) × (status ≡ out_of_memory)
+
+-- the last reply is said, or memory was refused, or the session had ended before
 abbrev pub SaysOrEnds : Bool → Kept → Kept → ℕ → Type 0
 SaysOrEnds true old new status = status ≡ out_of_memory
-SaysOrEnds false old new status = (old.ended ≡ false) × SaysLast (option_map reply_view old.reply) old.line.items new.line.items status
+SaysOrEnds false old new status = SaysLast (option_map reply_view old.reply) old.line.items new.line.items status ⊎ IsUnprinted old new status
 
--- the last reply is printed; the session and the reply stay
+-- the last reply is printed; the session and the reply stay, and the session goes on if it went on
 pub record PrintsLast (old new : Kept) (status : ℕ) : Type 0 where
   pub session : new.session ≡ old.session
   pub reply : new.reply ≡ old.reply
   pub limit : new.limit ≡ old.limit
-  pub says : SaysOrEnds new.ended old new status
+  pub ended : new.ended ≡ old.ended
+  pub says : SaysOrEnds old.ended old new status
 
 -- a closed handle says so
 abbrev pub PrintsLastKept : Option Kept → Option Kept → ℕ → Type 0

@@ -13,6 +13,7 @@ pub record IsNew (b : Bounds) (k : Kept) : Type 0 where
   pub bounds : k.session.bounds ≡ b
   pub limit : k.limit ≡ b.line
   pub goes_on : k.ended ≡ false
+  pub is_open : k.session.ended ≡ false
   pub no_reply : k.reply ≡ None
   pub no_line : k.line.items ≡ []
 

@@ -6,7 +6,7 @@ ghost use Rattle.dom_model.specs.Commands.Command.{Command as PlainCommand, Crea
 ghost use Rattle.dom_session.specs.Brief.{reply_of};
 ghost use Rattle.dom_session.specs.Views.{making_view, editing_view, reading_view};
 ghost use Rattle.dom_wire.specs.Sessions.{command_view, reply_view};
-ghost use Rattle.dom_c.specs.Answers.{Steps, step_for, Answers, AsksOrEnded, with_reply, at_end};
+ghost use Rattle.dom_c.specs.Answers.{Steps, Answers, AsksOrEnded, with_reply, at_end};
 ghost use Rattle.dom_c.specs.Reads.{Reads, IsFaultOf, name_in, then_make};
 ghost use Rattle.dom_c.specs.Statuses.{status_of, status_at_end, out_of_memory};
 
@@ -18,7 +18,7 @@ use crate::status::{
     status_of, status_of_brief,
 };
 use dom_session::{Brief, Editing, IteratorId, Making, Move, NodeId, Reading, Units, WalkerId};
-use dom_wire::{Command, Ended, Reply};
+use dom_wire::{Command, Ended, OutOfMemory, Reply};
 
 impl Kept {
     // Stores a reply, and returns its status.
@@ -41,7 +41,7 @@ impl Kept {
         status_of_brief(reply)
     }
 
-    // Notes that the session is out of memory.
+    // Notes that the session has ended for want of memory.
     fn end(&mut self) -> u8
         ensures kept { self.new ≡ at_end self.old }
         ensures status { result ≡ out_of_memory }
@@ -52,62 +52,64 @@ impl Kept {
 
     // Applies a command, and stores its reply.
     fn apply(&mut self, command: Command) -> u8
-        ensures { Steps (step_for self.old (Ok (command_view command))) self.old self.new result }
+        ensures { Steps (Ok (command_view command)) self.old self.new result }
     {
         if self.ended {
             return HP_OUT_OF_MEMORY;
         }
         match self.session.apply(command) {
             Ok(reply) => self.keep(reply),
-            Err(Ended) => self.end(),
+            Err(OutOfMemory::Refused) => HP_OUT_OF_MEMORY,
+            Err(OutOfMemory::Ended) => self.end(),
         }
     }
 
     // Applies a command that makes a node, and stores its reply.
     fn make(&mut self, command: Making) -> u8
-        ensures { Steps (step_for self.old (Ok (making_view command))) self.old self.new result }
+        ensures { Steps (Ok (making_view command)) self.old self.new result }
     {
         if self.ended {
             return HP_OUT_OF_MEMORY;
         }
         match self.session.make(command) {
             Ok(reply) => self.note(reply),
-            Err(Ended) => self.end(),
+            Err(OutOfMemory::Refused) => HP_OUT_OF_MEMORY,
+            Err(OutOfMemory::Ended) => self.end(),
         }
     }
 
     // Makes an Element, and stores the reply.
     fn make_element(&mut self, document: NodeId, name: &str) -> u8
-        ensures { Steps (step_for self.old (Ok (CreateElement document name.now))) self.old self.new
-            result }
+        ensures { Steps (Ok (CreateElement document name.now)) self.old self.new result }
     {
         if self.ended {
             return HP_OUT_OF_MEMORY;
         }
         match self.session.create_element(document, name) {
             Ok(reply) => self.note(reply),
-            Err(Ended) => self.end(),
+            Err(OutOfMemory::Refused) => HP_OUT_OF_MEMORY,
+            Err(OutOfMemory::Ended) => self.end(),
         }
     }
 
     // Makes a Text, and stores the reply.
     fn make_text(&mut self, document: NodeId, text: Units) -> u8
-        ensures { Steps (step_for self.old (Ok (CreateText document text))) self.old self.new
-            result }
+        ensures { Steps (Ok (CreateText document text)) self.old self.new result }
     {
         if self.ended {
             return HP_OUT_OF_MEMORY;
         }
         match self.session.create_text(document, text) {
             Ok(reply) => self.note(reply),
-            Err(Ended) => self.end(),
+            Err(OutOfMemory::Refused) => HP_OUT_OF_MEMORY,
+            Err(OutOfMemory::Ended) => self.end(),
         }
     }
 
     /// Applies an edit of the tree, and stores its reply.
     #[inline(always)]
     pub(crate) fn edit(&mut self, command: Editing) -> u8
-        ensures { Steps (step_for self.old (Ok (editing_view command))) self.old self.new result }
+        ensures { Steps (Ok (editing_view command)) self.old self.new result }
     {
         if self.ended {
             return HP_OUT_OF_MEMORY;
@@ -120,7 +122,7 @@ impl Kept {
 
     /// Moves an iterator on, and stores the reply.
     pub(crate) fn next_node(&mut self, iterator: IteratorId) -> u8
-        ensures { Steps (step_for self.old (Ok (NextNode iterator))) self.old self.new result }
+        ensures { Steps (Ok (NextNode iterator)) self.old self.new result }
     {
         if self.ended {
             return HP_OUT_OF_MEMORY;
@@ -133,7 +135,7 @@ impl Kept {
 
     /// Moves an iterator back, and stores the reply.
     pub(crate) fn previous_node(&mut self, iterator: IteratorId) -> u8
-        ensures { Steps (step_for self.old (Ok (PreviousNode iterator))) self.old self.new result }
+        ensures { Steps (Ok (PreviousNode iterator)) self.old self.new result }
     {
         if self.ended {
             return HP_OUT_OF_MEMORY;
@@ -146,7 +148,7 @@ impl Kept {
 
     // Moves a walker, and stores the reply.
     fn move_walker(&mut self, walker: WalkerId, direction: Move) -> u8
-        ensures { Steps (step_for self.old (Ok (Walk walker direction))) self.old self.new result }
+        ensures { Steps (Ok (Walk walker direction)) self.old self.new result }
     {
         if self.ended {
             return HP_OUT_OF_MEMORY;
@@ -190,16 +192,16 @@ impl Kept {
         self.keep(reply)
     }
 
-    // Reports a fault of the arguments. Out of memory ends the session.
+    // Reports a fault of the arguments. The session goes on, also if there was no memory for them.
     fn refuse(&mut self, fault: Fault) -> u8
         ensures { (c : Result PlainCommand ℕ) → IsFaultOf fault c →
-            Steps (step_for self.old c) self.old self.new result }
+            Steps c self.old self.new result }
     {
         if self.ended {
             return HP_OUT_OF_MEMORY;
         }
         match fault {
-            Fault::Memory => self.end(),
+            Fault::Memory => HP_OUT_OF_MEMORY,
             Fault::NotUtf8 => HP_NOT_UTF8,
             Fault::BadLengths => HP_BAD_LENGTHS,
             Fault::BadChoice => HP_BAD_CHOICE,
@@ -209,7 +211,7 @@ impl Kept {
     /// Applies a command that was read, or reports the fault of its arguments.
     pub(crate) fn take(&mut self, command: Result<Command, Fault>) -> u8
         ensures { (c : Result PlainCommand ℕ) → Reads command_view command c →
-            Steps (step_for self.old c) self.old self.new result }
+            Steps c self.old self.new result }
     {
         match command {
             Ok(command) => self.apply(command),
@@ -220,7 +222,7 @@ impl Kept {
     /// Applies a command that makes a node, or reports the fault of its arguments.
     pub(crate) fn take_making(&mut self, command: Result<Making, Fault>) -> u8
         ensures { (c : Result PlainCommand ℕ) → Reads making_view command c →
-            Steps (step_for self.old c) self.old self.new result }
+            Steps c self.old self.new result }
     {
         match command {
             Ok(command) => self.make(command),
@@ -231,8 +233,8 @@ impl Kept {
     /// Makes an Element from a name that was read, or reports its fault.
     pub(crate) fn create_element(&mut self, document: NodeId, name: Result<&str, Fault>) -> u8
         ensures { (c : Result (List ℕ) ℕ) → Reads (λ name. name.now) name.entry c →
-            Steps (step_for self.old (then_make c (λ name. Ok (CreateElement document name))))
-            self.old self.new result }
+            Steps (then_make c (λ name. Ok (CreateElement document name))) self.old self.new
+            result }
     {
         match name {
             Ok(name) => self.make_element(document, name),
@@ -243,8 +245,7 @@ impl Kept {
     /// Makes a Text from data that was read, or reports its fault.
     pub(crate) fn create_text(&mut self, document: NodeId, text: Result<Units, Fault>) -> u8
         ensures { (c : Result (List ℕ) ℕ) → Reads (λ text. text) text c →
-            Steps (step_for self.old (then_make c (λ text. Ok (CreateText document text)))) self.old
-            self.new result }
+            Steps (then_make c (λ text. Ok (CreateText document text))) self.old self.new result }
     {
         match text {
             Ok(text) => self.make_text(document, text),
@@ -255,8 +256,8 @@ impl Kept {
     /// Makes a walker's move that was read, or reports its fault.
     pub(crate) fn walk(&mut self, walker: WalkerId, direction: Result<Move, Fault>) -> u8
         ensures { (c : Result AMove ℕ) → Reads (λ direction. direction) direction c →
-            Steps (step_for self.old (then_make c (λ direction. Ok (Walk walker direction))))
-            self.old self.new result }
+            Steps (then_make c (λ direction. Ok (Walk walker direction))) self.old self.new
+            result }
     {
         match direction {
             Ok(direction) => self.move_walker(walker, direction),

@@ -1,10 +1,10 @@
 //! Lines of JSON, and the lines of their replies.
 
-ghost use Rattle.std.specs.Prelude.{◌≡◌, true, IfOk};
+ghost use Rattle.std.specs.Prelude.{◌≡◌, true, Err, IfOk};
 ghost use Rattle.dom_model.specs.Commands.Reply.{is_refusal};
 ghost use Rattle.dom_model.specs.Commands.Table.{whole_table};
 ghost use Rattle.dom_model.specs.Commands.Line.{command_within};
-ghost use Rattle.dom_wire.specs.Sessions.{reply_view};
+ghost use Rattle.dom_wire.specs.Sessions.{IsAsBefore, reply_view};
 ghost use Rattle.dom_wire.specs.Reads.{Reads};
 ghost use Rattle.dom_c.specs.Lines.{AnswersLine, TakesLine, IsPrinted, IsReply, PrintsLast, PrintsLastIn, step_in};
 
@@ -12,9 +12,9 @@ use crate::handle::Handle;
 use crate::kept::Kept;
 use crate::status::{HP_CLOSED, HP_NOT_THERE, HP_OK, HP_OUT_OF_MEMORY, status_of};
 use dom_wire::{
-    Brief, Command, Ended, OwnError, ReadError, Reply, Session, read_line, write_reply,
+    Brief, Command, OutOfMemory, OwnError, ReadError, Reply, Session, read_line, write_reply,
 };
-use std::alloc::{AllocError, Global};
+use std::alloc::Global;
 
 // Returns the command of a line within a limit, or the refusal of its form.
 #[tactic(auto, unfolding(dom_model::specs::Commands::Line::command_within))]
@@ -33,39 +33,41 @@ fn reply_to(
     session: &mut Session,
     limit: usize,
     line: &[u8],
-) -> Result<Reply, AllocError>
+) -> Result<Reply, OutOfMemory>
     ensures reply { IfOk result (λ reply. IsReply (reply_view reply) session.old session.new
         (step_in session.old limit line.now)) }
     ensures refused { IfOk result (λ reply. is_refusal (reply_view reply) ≡ true →
         session.new ≡ session.old) }
+    ensures same { result ≡ Err OutOfMemory.Refused → IsAsBefore session.old session.new }
     ensures bounds { session.new.bounds ≡ session.old.bounds }
 {
     match read_within(alloc, limit, line) {
-        Ok(command) => match session.apply(command) {
-            Ok(reply) => Ok(reply),
-            Err(Ended) => Err(AllocError),
-        },
+        Ok(command) => session.apply(command),
         Err(ReadError::Own(error)) => Ok(Reply::Brief(Brief::Own(error))),
-        Err(ReadError::Memory) => Err(AllocError),
+        Err(ReadError::Memory) => Err(OutOfMemory::Refused),
     }
 }
 
 impl Kept {
-    // Answers a line, and stores its reply and the reply's line.
+    // Answers a line, and stores its reply and the reply's line. A session whose reply cannot be printed ends.
     fn answer_line(&mut self, line: &[u8]) -> u8
         ensures steps { TakesLine line.now self.old self.new result }
-        ensures printed { IsPrinted self.new }
+        ensures printed { IsPrinted result self.new }
     {
         if self.ended {
             return HP_OUT_OF_MEMORY;
         }
-        if let Ok(reply) = reply_to(self.alloc, &mut self.session, self.limit, line)
-            && let Ok(text) = write_reply(self.alloc, &reply)
-        {
-            let status = status_of(&reply);
-            self.reply = Some(reply);
-            self.line = text;
-            return status;
+        match reply_to(self.alloc, &mut self.session, self.limit, line) {
+            Ok(reply) => {
+                if let Ok(text) = write_reply(self.alloc, &reply) {
+                    let status = status_of(&reply);
+                    self.reply = Some(reply);
+                    self.line = text;
+                    return status;
+                }
+            }
+            Err(OutOfMemory::Refused) => return HP_OUT_OF_MEMORY,
+            Err(OutOfMemory::Ended) => {}
         }
         self.ended = true;
         HP_OUT_OF_MEMORY
@@ -86,10 +88,7 @@ impl Kept {
                 self.line = printed;
                 HP_OK
             }
-            Err(_) => {
-                self.ended = true;
-                HP_OUT_OF_MEMORY
-            }
+            Err(_) => HP_OUT_OF_MEMORY,
         }
     }
 }

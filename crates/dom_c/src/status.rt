@@ -43,7 +43,8 @@ pub const HP_BAD_JSON: u8 = 37;
 pub const HP_BAD_COMMAND: u8 = 38;
 
 pub const HP_BAD_ARGUMENTS: u8 = 39;
-/// Out of memory, now or at an earlier call: the session has ended. It takes no command, and its nodes can still be read.
+/// Out of memory. Either nothing has changed and the session goes on, or it has ended, now or at an earlier call: it takes no command, and
+/// its nodes can still be read.
 pub const HP_OUT_OF_MEMORY: u8 = 48;
 /// The handle is closed.
 pub const HP_CLOSED: u8 = 49;
@@ -59,7 +60,7 @@ pub const HP_BAD_LENGTHS: u8 = 53;
 pub const HP_BAD_CHOICE: u8 = 54;
 /// The last answer, or the node, has no such part.
 pub const HP_NOT_THERE: u8 = 55;
-/// The session has ended, as it was out of memory once. The answer is from the world it still holds.
+/// The session has ended, as an edit was out of memory once. The answer is from the world it still holds.
 pub const HP_ENDED: u8 = 56;
 
 /// The number that stands for null; no object has it.

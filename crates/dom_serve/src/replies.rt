@@ -13,9 +13,7 @@ ghost use Rattle.dom_serve.specs.Server.{held_command, held_step, Takes, Prints,
 use crate::fault::Fault;
 use crate::streams::{Failed, Sink};
 use crate::writing::{write_line, write_out_of_memory};
-use dom_wire::{
-    Brief, Command, Ended, OwnError, ReadError, Reply, Session, read_line, write_reply,
-};
+use dom_wire::{Brief, Command, OwnError, ReadError, Reply, Session, read_line, write_reply};
 use std::alloc::{AllocError, Global};
 
 /// Returns the command of a line, or the refusal of its form.
@@ -42,7 +40,7 @@ fn reply(
     match command(alloc, kept, too_long) {
         Ok(command) => match session.apply(command) {
             Ok(reply) => Ok(reply),
-            Err(Ended) => Err(AllocError),
+            Err(_) => Err(AllocError),
         },
         Err(ReadError::Own(error)) => Ok(Reply::Brief(Brief::Own(error))),
         Err(ReadError::Memory) => Err(AllocError),

@@ -17,3 +17,4 @@ pub mod Unfelt
 pub mod ContentsAnswers
 pub mod Laying
 pub mod WorldsKept
+pub mod GoingOn

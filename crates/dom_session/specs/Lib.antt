@@ -10,3 +10,4 @@ pub mod Links
 pub mod Lending
 pub mod InUse
 pub mod Ending
+pub mod GoingOn

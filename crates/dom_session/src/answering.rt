@@ -1,10 +1,11 @@
 //! The answer to each command.
 
-ghost use Rattle.std.specs.Prelude.{◌≤◌, IfOk, OnErr};
+ghost use Rattle.std.specs.Prelude.{◌≡◌, ◌≤◌, IfOk, OnErr, true};
 ghost use Rattle.dom_edit.specs.Whole.{IsShown};
 ghost use Rattle.dom_session.specs.Views.{command_view};
 ghost use Rattle.dom_session.specs.Stands.{IsStep};
-ghost use Rattle.dom_session.specs.Ending.{IsKept};
+ghost use Rattle.dom_session.specs.Ending.{IsKept, IsAsItWas};
+ghost use Rattle.dom_session.specs.GoingOn.{is_question, goes_on};
 ghost use Rattle.dom_session.specs.Limiting.{numbered};
 
 use crate::attributes::change_attributes;
@@ -37,6 +38,10 @@ pub(crate) fn answered(
     ensures step { IfOk result (IsStep world.old world.new (numbered numbers)
         (command_view command)) }
     ensures left { OnErr result (IsKept world.old world.new) }
+    ensures asked { is_question (command_view command) ≡ true →
+        OnErr result (world.new ≡ world.old) }
+    ensures goes_on { goes_on (command_view command) ≡ true →
+        OnErr result (IsAsItWas world.old world.new) }
 {
     match command {
         Command::Making(command) => Ok(Reply::Brief(make_nodes(world, numbers, alloc, command)?)),

@@ -1,6 +1,6 @@
 //! The commands on attributes (DOM Standard, "Interface Element").
 
-ghost use Rattle.std.specs.Prelude.{◌≡◌, is_some, map, string_bytes, IfOk, OnErr};
+ghost use Rattle.std.specs.Prelude.{◌≡◌, is_some, map, string_bytes, IfOk, OnErr, true};
 ghost use Rattle.dom_model.specs.Forests.Attributes.{attribute_value, attribute_names};
 ghost use Rattle.dom_model.specs.Forests.Forest.{HasNode, entry_in};
 ghost use Rattle.dom_model.specs.DataAndCopies.Data.{content_in};
@@ -10,6 +10,7 @@ ghost use Rattle.dom_edit.specs.Whole.{IsShown};
 ghost use Rattle.dom_session.specs.Views.{attributes_view};
 ghost use Rattle.dom_session.specs.Stands.{IsStep, Tells};
 ghost use Rattle.dom_session.specs.Ending.{IsKept};
+ghost use Rattle.dom_session.specs.GoingOn.{goes_on};
 
 use crate::brief::Brief;
 use crate::command::Attributes;
@@ -190,6 +191,8 @@ pub(crate) fn change_attributes(
     ensures step { IfOk result (λ reply. (b : Bounds) →
         IsStep world.old world.new b (attributes_view command) reply) }
     ensures left { OnErr result (IsKept world.old world.new) }
+    ensures unchanged { goes_on (attributes_view command) ≡ true →
+        OnErr result (world.new ≡ world.old) }
 {
     match command {
         Attributes::SetAttribute(element, name, value) => set_attribute(

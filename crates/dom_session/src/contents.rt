@@ -1,12 +1,13 @@
 //! The contents of live ranges (DOM Standard, "Interface Range").
 
-ghost use Rattle.std.specs.Prelude.{◌≡◌, ◌≤◌, IfOk, OnErr};
+ghost use Rattle.std.specs.Prelude.{◌≡◌, ◌≤◌, IfOk, OnErr, true};
 ghost use Rattle.dom_model.specs.Commands.Command.{RangeText, DeleteContents, ExtractContents, CloneContents, InsertNode, SurroundContents};
 ghost use Rattle.dom_model.specs.Commands.Guards.{Bounds};
 ghost use Rattle.dom_edit.specs.Whole.{IsShown};
 ghost use Rattle.dom_session.specs.Views.{contents_view};
 ghost use Rattle.dom_session.specs.Stands.{IsStep};
 ghost use Rattle.dom_session.specs.Ending.{IsKept};
+ghost use Rattle.dom_session.specs.GoingOn.{goes_on};
 ghost use Rattle.dom_session.specs.Limiting.{numbered};
 
 use crate::brief::Brief;
@@ -200,6 +201,8 @@ pub(crate) fn change_contents(
     ensures step { IfOk result (IsStep world.old world.new (numbered numbers)
         (contents_view command)) }
     ensures left { OnErr result (IsKept world.old world.new) }
+    ensures unchanged { goes_on (contents_view command) ≡ true →
+        OnErr result (world.new ≡ world.old) }
 {
     find_ends(world, range_of(&command));
     match command {

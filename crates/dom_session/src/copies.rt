@@ -1,6 +1,6 @@
 //! Copies, equality, and the relative position of nodes (DOM Standard, "Interface Node", "Interface Document").
 
-ghost use Rattle.std.specs.Prelude.{◌≡◌, ◌≤◌, ◌+◌, ◌*◌, nat_lt, IfOk, OnErr};
+ghost use Rattle.std.specs.Prelude.{◌≡◌, ◌≤◌, ◌+◌, ◌*◌, nat_lt, IfOk, OnErr, true};
 ghost use Rattle.dom_model.specs.declared.Kind.TheVariants.{Document};
 ghost use Rattle.dom_model.specs.Forests.Forest.{HasNode, size};
 ghost use Rattle.dom_model.specs.Commands.Command.{ImportNode, CloneNode, IsEqual, IsContaining, ComparePosition};
@@ -9,6 +9,7 @@ ghost use Rattle.dom_edit.specs.Whole.{IsShown};
 ghost use Rattle.dom_session.specs.Views.{copying_view};
 ghost use Rattle.dom_session.specs.Stands.{IsStep};
 ghost use Rattle.dom_session.specs.Ending.{IsKept};
+ghost use Rattle.dom_session.specs.GoingOn.{goes_on};
 ghost use Rattle.dom_session.specs.Limiting.{numbered};
 
 use crate::brief::Brief;
@@ -160,6 +161,8 @@ pub(crate) fn copy_nodes(
     ensures step { IfOk result (IsStep world.old world.new (numbered numbers)
         (copying_view command)) }
     ensures left { OnErr result (IsKept world.old world.new) }
+    ensures unchanged { goes_on (copying_view command) ≡ true →
+        OnErr result (world.new ≡ world.old) }
 {
     match command {
         Copying::ImportNode(document, node, deep) => import_node(

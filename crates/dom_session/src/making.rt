@@ -8,7 +8,7 @@ ghost use Rattle.dom_session.specs.Brief.{reply_of};
 ghost use Rattle.dom_session.specs.Views.{making_view, reply_view};
 ghost use Rattle.dom_edit.specs.Whole.{IsShown};
 ghost use Rattle.dom_session.specs.Stands.{IsStep};
-ghost use Rattle.dom_session.specs.Ending.{IsKept};
+ghost use Rattle.dom_session.specs.Ending.{IsKept, IsAsItWas};
 ghost use Rattle.dom_session.specs.Refusing.{making_refusal};
 ghost use Rattle.dom_session.specs.Limiting.{numbered};
 
@@ -52,6 +52,7 @@ pub(crate) fn new_document(world: &mut World, numbers: u64) -> Result<Brief, All
     ensures step { IfOk result (λ reply. IsStep world.old world.new (numbered numbers) NewDocument
         (reply_of reply)) }
     ensures left { OnErr result (IsKept world.old world.new) }
+    ensures as_it_was { OnErr result (IsAsItWas world.old world.new) }
 {
     if numbers <= world.tree.made() {
         return Ok(Brief::Own(OwnError::Limit));
@@ -74,6 +75,7 @@ pub(crate) fn create_element(
     ensures step { IfOk result (λ reply. IsStep world.old world.new (numbered numbers)
         (CreateElement document name.now) (reply_of reply)) }
     ensures left { OnErr result (IsKept world.old world.new) }
+    ensures as_it_was { OnErr result (IsAsItWas world.old world.new) }
 {
     if let Some(reply) = refusal(world, numbers, document) {
         return Ok(reply);
@@ -100,6 +102,7 @@ pub(crate) fn create_text(
     ensures step { IfOk result (λ reply. IsStep world.old world.new (numbered numbers)
         (CreateText document text) (reply_of reply)) }
     ensures left { OnErr result (IsKept world.old world.new) }
+    ensures as_it_was { OnErr result (IsAsItWas world.old world.new) }
 {
     if let Some(reply) = refusal(world, numbers, document) {
         return Ok(reply);
@@ -122,6 +125,7 @@ pub(crate) fn create_comment(
     ensures step { IfOk result (λ reply. IsStep world.old world.new (numbered numbers)
         (CreateComment document text) (reply_of reply)) }
     ensures left { OnErr result (IsKept world.old world.new) }
+    ensures as_it_was { OnErr result (IsAsItWas world.old world.new) }
 {
     if let Some(reply) = refusal(world, numbers, document) {
         return Ok(reply);
@@ -159,6 +163,7 @@ pub(crate) fn create_instruction(
     ensures step { IfOk result (λ reply. IsStep world.old world.new (numbered numbers)
         (CreatePI document (string_bytes target) text) (reply_of reply)) }
     ensures left { OnErr result (IsKept world.old world.new) }
+    ensures as_it_was { OnErr result (IsAsItWas world.old world.new) }
 {
     if let Some(reply) = refusal(world, numbers, document) {
         return Ok(reply);
@@ -191,6 +196,7 @@ pub(crate) fn create_doctype(
         (CreateDoctype document (string_bytes name) (string_bytes public_id)
         (string_bytes system_id)) (reply_of reply)) }
     ensures left { OnErr result (IsKept world.old world.new) }
+    ensures as_it_was { OnErr result (IsAsItWas world.old world.new) }
 {
     if let Some(reply) = refusal(world, numbers, document) {
         return Ok(reply);
@@ -214,6 +220,7 @@ pub(crate) fn create_fragment(
     ensures step { IfOk result (λ reply. IsStep world.old world.new (numbered numbers)
         (CreateFragment document) (reply_of reply)) }
     ensures left { OnErr result (IsKept world.old world.new) }
+    ensures as_it_was { OnErr result (IsAsItWas world.old world.new) }
 {
     if let Some(reply) = refusal(world, numbers, document) {
         return Ok(reply);
@@ -235,6 +242,7 @@ pub(crate) fn make_nodes(
     ensures step { IfOk result (λ reply. IsStep world.old world.new (numbered numbers)
         (making_view command) (reply_of reply)) }
     ensures left { OnErr result (IsKept world.old world.new) }
+    ensures as_it_was { OnErr result (IsAsItWas world.old world.new) }
 {
     match command {
         Making::NewDocument => new_document(world, numbers),

@@ -24,6 +24,7 @@ pub(crate) fn create_observer(world: &mut World, numbers: u64) -> Result<Reply, 
     requires shown { IsShown world.old }
     ensures step { IfOk result (IsStep world.old world.new (numbered numbers) CreateObserver) }
     ensures left { OnErr result (IsKept world.old world.new) }
+    ensures unchanged { OnErr result (world.new ≡ world.old) }
 {
     if numbers <= world.observers.made() as u64 {
         return Ok(Reply::Brief(Brief::Own(OwnError::Limit)));
@@ -43,6 +44,7 @@ pub(crate) fn observe(
     ensures step { IfOk result (λ reply. (b : Bounds) →
         IsStep world.old world.new b (Observe observer node options) reply) }
     ensures left { OnErr result (IsKept world.old world.new) }
+    ensures unchanged { OnErr result (world.new ≡ world.old) }
 {
     if !world.observers.holds(observer) || !world.tree.holds(node) {
         return Ok(Reply::Brief(Brief::Own(OwnError::NoSuchObject)));
@@ -161,6 +163,7 @@ pub(crate) fn watch(
     ensures step { IfOk result (IsStep world.old world.new (numbered numbers)
         (observing_view command)) }
     ensures left { OnErr result (IsKept world.old world.new) }
+    ensures unchanged { OnErr result (world.new ≡ world.old) }
 {
     match command {
         Observing::CreateObserver => create_observer(world, numbers),

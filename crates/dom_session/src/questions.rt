@@ -118,6 +118,7 @@ pub(crate) fn ask_tree(
     ensures step { IfOk result (λ reply. (b : Bounds) →
         IsStep world.old world.new b (asking_view command) reply) }
     ensures left { OnErr result (IsKept world.old world.new) }
+    ensures unchanged { OnErr result (world.new ≡ world.old) }
 {
     match command {
         Asking::DescribeNode(node) => describe_node(world, alloc, node),

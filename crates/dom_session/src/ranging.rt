@@ -1,6 +1,6 @@
 //! The commands that make, tell and release live ranges (DOM Standard, "Ranges").
 
-ghost use Rattle.std.specs.Prelude.{◌≤◌, IfOk, OnErr};
+ghost use Rattle.std.specs.Prelude.{◌≡◌, ◌≤◌, IfOk, OnErr};
 ghost use Rattle.dom_model.specs.Commands.Command.{CreateRange, CloneRange, DescribeRange, ReleaseRange};
 ghost use Rattle.dom_model.specs.Commands.Guards.{Bounds};
 ghost use Rattle.dom_edit.specs.Whole.{IsShown};
@@ -31,6 +31,7 @@ pub(crate) fn create_range(
     ensures step { IfOk result (IsStep world.old world.new (numbered numbers)
         (CreateRange document)) }
     ensures left { OnErr result (IsKept world.old world.new) }
+    ensures unchanged { OnErr result (world.new ≡ world.old) }
 {
     if !world.tree.holds(document) {
         return Ok(Reply::Brief(Brief::Own(OwnError::NoSuchObject)));
@@ -59,6 +60,7 @@ pub(crate) fn clone_range(
     requires shown { IsShown world.old }
     ensures step { IfOk result (IsStep world.old world.new (numbered numbers) (CloneRange range)) }
     ensures left { OnErr result (IsKept world.old world.new) }
+    ensures unchanged { OnErr result (world.new ≡ world.old) }
 {
     if !world.ranges.holds(range) {
         return Ok(Reply::Brief(Brief::Own(OwnError::NoSuchObject)));
@@ -106,6 +108,7 @@ pub(crate) fn act_on_ranges(
     ensures step { IfOk result (IsStep world.old world.new (numbered numbers)
         (ranging_view command)) }
     ensures left { OnErr result (IsKept world.old world.new) }
+    ensures unchanged { OnErr result (world.new ≡ world.old) }
 {
     match command {
         Ranging::CreateRange(document) => create_range(world, numbers, document),

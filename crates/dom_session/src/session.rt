@@ -1,6 +1,6 @@
 //! One session over one world.
 
-ghost use Rattle.std.specs.Prelude.{◌≡◌, ℕ, ◌≤◌, true, false, IsErr, IfOk, OnOk, OnErr};
+ghost use Rattle.std.specs.Prelude.{◌≡◌, ℕ, ◌≤◌, true, false, Err, IsErr, IfOk, OnOk, OnErr};
 ghost use Rattle.dom_model.specs.Worlds.World.{World as PlainWorld, first_world};
 ghost use Rattle.dom_model.specs.Forests.Forest.{children_of};
 ghost use Rattle.dom_model.specs.Commands.Command.{CreateElement, CreateText, NextNode, PreviousNode, Walk, HasAttribute};
@@ -9,7 +9,8 @@ ghost use Rattle.dom_model.specs.Commands.Answer.{answer};
 ghost use Rattle.dom_session.specs.Brief.{reply_of};
 ghost use Rattle.dom_session.specs.Views.{command_view, making_view, editing_view, reading_view, reply_view};
 ghost use Rattle.dom_session.specs.Stands.{StandsFor, IsAnswered, held_world};
-ghost use Rattle.dom_session.specs.Ending.{IsLeft};
+ghost use Rattle.dom_session.specs.Ending.{IsLeft, IsAsBefore};
+ghost use Rattle.dom_session.specs.GoingOn.{is_question, goes_on};
 ghost use Rattle.dom_session.specs.Bounding.{bounds_of};
 ghost use Rattle.dom_session.specs.InUse.{in_use_of, in_use_in};
 ghost use Rattle.dom_session.specs.Links.{links_in, first_child_in, last_child_in, child_in, count_in, laid_over};
@@ -21,6 +22,7 @@ use crate::attributes::has_attribute;
 use crate::brief::Brief;
 use crate::command::{Command, Editing, Making, Reading};
 use crate::editing::edit_tree;
+use crate::going_on::goes_on;
 use crate::in_use::{self, Counts};
 use crate::links::{self, Links};
 use crate::making::{create_element, create_text, make_nodes};
@@ -43,9 +45,18 @@ pub struct Limits {
     pub line: usize,
 }
 
-/// Out of memory: the session answers no further command.
+/// The session has ended: it answers no further command.
 #[derive(Clone, Copy, Debug, PartialEq, Eq)]
 pub struct Ended;
+
+/// Out of memory: whether the session goes on.
+#[derive(Clone, Copy, Debug, PartialEq, Eq)]
+pub enum OutOfMemory {
+    /// The call has changed nothing, and the session goes on.
+    Refused,
+    /// The session has ended: it answers no further command.
+    Ended,
+}
 
 /// The world of one client, and how many objects it may make.
 #[derive(Drop)]
@@ -95,10 +106,11 @@ impl Session {
         })
     }
 
-    /// Applies a command, and returns its reply. A refused growth ends the session: that call and every later one return `Ended`.
+    /// Applies a command, and returns its reply. If it is refused memory before it has changed anything, the session goes on; else the
+    /// session ends, and every later call returns `OutOfMemory::Ended`.
     ///
-    /// The session still holds its nodes, and they can be read, each with its label.
-    pub fn apply(&mut self, command: Command) -> Result<Reply, Ended>
+    /// A session that has ended still holds its nodes, and they can be read, each with its label.
+    pub fn apply(&mut self, command: Command) -> Result<Reply, OutOfMemory>
         // For every world that the session stands for, the reply is that world's answer, and the session stands for its next world.
         ensures answers { IfOk result
             (λ reply. (w : PlainWorld) → StandsFor self.old w →
@@ -106,61 +118,76 @@ impl Session {
         ensures refused { IfOk result (λ reply. is_refusal (reply_view reply) ≡ true →
             self.new ≡ self.old) }
         ensures open { OnOk result (self.new.ended ≡ false) }
-        ensures ended { OnErr result (self.new.ended ≡ true) }
+        ensures goes_on { result ≡ Err OutOfMemory.Refused → self.new.ended ≡ false }
+        ensures ended { result ≡ Err OutOfMemory.Ended → self.new.ended ≡ true }
+        ensures same { result ≡ Err OutOfMemory.Refused → IsAsBefore self.old self.new }
         ensures left { OnErr result (IsLeft self.old self.new) }
+        ensures asked { is_question (command_view command) ≡ true →
+            OnErr result (self.new ≡ self.old) }
+        ensures all_or_nothing { goes_on (command_view command) ≡ true →
+            OnErr result (IsAsBefore self.old self.new) }
         ensures stays_ended { self.old.ended ≡ true → IsErr result }
         ensures bounds { self.new.bounds ≡ self.old.bounds }
     {
         if self.ended {
-            return Err(Ended);
+            return Err(OutOfMemory::Ended);
         }
+        let stays_open = goes_on(&command);
         match answered(&mut self.world, self.limits.numbers, self.alloc, command) {
             Ok(reply) => Ok(reply),
             Err(_) => {
+                if stays_open {
+                    return Err(OutOfMemory::Refused);
+                }
                 self.ended = true;
-                Err(Ended)
+                Err(OutOfMemory::Ended)
             }
         }
     }
 
-    /// Applies a command that makes a node as `apply` does, with fewer arguments to pass.
-    pub fn make(&mut self, command: Making) -> Result<Brief, Ended>
+    /// Applies a command that makes a node as `apply` does, with fewer arguments to pass. It never ends a session.
+    pub fn make(&mut self, command: Making) -> Result<Brief, OutOfMemory>
         ensures answers { IfOk result
             (λ reply. (w : PlainWorld) → StandsFor self.old w →
             IsAnswered (reply_of reply) w self.old self.new (making_view command)) }
         ensures refused { IfOk result (λ reply. is_refusal (reply_view (reply_of reply)) ≡ true →
             self.new ≡ self.old) }
         ensures open { OnOk result (self.new.ended ≡ false) }
-        ensures ended { OnErr result (self.new.ended ≡ true) }
+        ensures goes_on { result ≡ Err OutOfMemory.Refused → self.new.ended ≡ false }
+        ensures ended { result ≡ Err OutOfMemory.Ended → self.new.ended ≡ true }
+        ensures same { result ≡ Err OutOfMemory.Refused → IsAsBefore self.old self.new }
         ensures left { OnErr result (IsLeft self.old self.new) }
+        ensures made { OnErr result (IsAsBefore self.old self.new) }
         ensures stays_ended { self.old.ended ≡ true → IsErr result }
         ensures bounds { self.new.bounds ≡ self.old.bounds }
     {
         if self.ended {
-            return Err(Ended);
+            return Err(OutOfMemory::Ended);
         }
         let Ok(reply) = make_nodes(&mut self.world, self.limits.numbers, self.alloc, command) else {
-            self.ended = true;
-            return Err(Ended);
+            return Err(OutOfMemory::Refused);
         };
         Ok(reply)
     }
 
     /// Makes an Element as `apply` does, from a borrowed name.
-    pub fn create_element(&mut self, document: NodeId, name: &str) -> Result<Brief, Ended>
+    pub fn create_element(&mut self, document: NodeId, name: &str) -> Result<Brief, OutOfMemory>
         ensures answers { IfOk result
             (λ reply. (w : PlainWorld) → StandsFor self.old w →
             IsAnswered (reply_of reply) w self.old self.new (CreateElement document name.now)) }
         ensures refused { IfOk result (λ reply. is_refusal (reply_view (reply_of reply)) ≡ true →
             self.new ≡ self.old) }
         ensures open { OnOk result (self.new.ended ≡ false) }
-        ensures ended { OnErr result (self.new.ended ≡ true) }
+        ensures goes_on { result ≡ Err OutOfMemory.Refused → self.new.ended ≡ false }
+        ensures ended { result ≡ Err OutOfMemory.Ended → self.new.ended ≡ true }
+        ensures same { result ≡ Err OutOfMemory.Refused → IsAsBefore self.old self.new }
         ensures left { OnErr result (IsLeft self.old self.new) }
+        ensures made { OnErr result (IsAsBefore self.old self.new) }
         ensures stays_ended { self.old.ended ≡ true → IsErr result }
         ensures bounds { self.new.bounds ≡ self.old.bounds }
     {
         if self.ended {
-            return Err(Ended);
+            return Err(OutOfMemory::Ended);
         }
         let Ok(reply) = create_element(
             &mut self.world,
@@ -169,27 +196,29 @@ impl Session {
             document,
             name,
         ) else {
-            self.ended = true;
-            return Err(Ended);
+            return Err(OutOfMemory::Refused);
         };
         Ok(reply)
     }
 
     /// Makes a Text as `apply` does, with fewer arguments to pass.
-    pub fn create_text(&mut self, document: NodeId, text: Units) -> Result<Brief, Ended>
+    pub fn create_text(&mut self, document: NodeId, text: Units) -> Result<Brief, OutOfMemory>
         ensures answers { IfOk result
             (λ reply. (w : PlainWorld) → StandsFor self.old w →
             IsAnswered (reply_of reply) w self.old self.new (CreateText document text)) }
         ensures refused { IfOk result (λ reply. is_refusal (reply_view (reply_of reply)) ≡ true →
             self.new ≡ self.old) }
         ensures open { OnOk result (self.new.ended ≡ false) }
-        ensures ended { OnErr result (self.new.ended ≡ true) }
+        ensures goes_on { result ≡ Err OutOfMemory.Refused → self.new.ended ≡ false }
+        ensures ended { result ≡ Err OutOfMemory.Ended → self.new.ended ≡ true }
+        ensures same { result ≡ Err OutOfMemory.Refused → IsAsBefore self.old self.new }
         ensures left { OnErr result (IsLeft self.old self.new) }
+        ensures made { OnErr result (IsAsBefore self.old self.new) }
         ensures stays_ended { self.old.ended ≡ true → IsErr result }
         ensures bounds { self.new.bounds ≡ self.old.bounds }
     {
         if self.ended {
-            return Err(Ended);
+            return Err(OutOfMemory::Ended);
         }
         let Ok(reply) = create_text(
             &mut self.world,
@@ -198,8 +227,7 @@ impl Session {
             document,
             text,
         ) else {
-            self.ended = true;
-            return Err(Ended);
+            return Err(OutOfMemory::Refused);
         };
         Ok(reply)
     }

@@ -30,6 +30,7 @@ pub(crate) fn create_static_range(
     ensures step { IfOk result (IsStep world.old world.new (numbered numbers)
         (CreateStaticRange start end)) }
     ensures left { OnErr result (IsKept world.old world.new) }
+    ensures unchanged { OnErr result (world.new ≡ world.old) }
 {
     if !world.tree.holds(start.node) || !world.tree.holds(end.node) {
         return Ok(Reply::Brief(Brief::Own(OwnError::NoSuchObject)));
@@ -84,6 +85,7 @@ pub(crate) fn act_on_statics(
     ensures step { IfOk result (IsStep world.old world.new (numbered numbers)
         (static_ranging_view command)) }
     ensures left { OnErr result (IsKept world.old world.new) }
+    ensures unchanged { OnErr result (world.new ≡ world.old) }
 {
     match command {
         StaticRanging::CreateStaticRange(start, end) => create_static_range(

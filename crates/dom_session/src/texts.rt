@@ -1,6 +1,6 @@
 //! The commands on data and text (DOM Standard, "Interface CharacterData", "Interface Text").
 
-ghost use Rattle.std.specs.Prelude.{◌≡◌, ◌≤◌, option_map, IfOk, OnErr};
+ghost use Rattle.std.specs.Prelude.{◌≡◌, ◌≤◌, option_map, IfOk, OnErr, true};
 ghost use Rattle.dom_model.specs.Forests.Kinds.{is_character_data};
 ghost use Rattle.dom_model.specs.Commands.Command.{GetData, SetData, AppendData, InsertData, DeleteData, ReplaceData, SubstringData, SplitText, TextContent, SetTextContent, Normalize};
 ghost use Rattle.dom_model.specs.Commands.Guards.{Bounds};
@@ -8,6 +8,7 @@ ghost use Rattle.dom_edit.specs.Whole.{IsShown};
 ghost use Rattle.dom_session.specs.Views.{texts_view, reply_view};
 ghost use Rattle.dom_session.specs.Stands.{IsStep};
 ghost use Rattle.dom_session.specs.Ending.{IsKept};
+ghost use Rattle.dom_session.specs.GoingOn.{goes_on};
 ghost use Rattle.dom_session.specs.Limiting.{numbered};
 ghost use Rattle.dom_session.specs.Refusing.{kind_refusal};
 
@@ -251,6 +252,8 @@ pub(crate) fn change_texts(
     ensures step { IfOk result (IsStep world.old world.new (numbered numbers)
         (texts_view command)) }
     ensures left { OnErr result (IsKept world.old world.new) }
+    ensures unchanged { goes_on (texts_view command) ≡ true →
+        OnErr result (world.new ≡ world.old) }
 {
     match command {
         Texts::GetData(node) => data(world, alloc, node),

@@ -42,6 +42,7 @@ pub(crate) fn create_iterator(
     ensures step { IfOk result (IsStep world.old world.new (numbered numbers)
         (CreateIterator root filter)) }
     ensures left { OnErr result (IsKept world.old world.new) }
+    ensures unchanged { OnErr result (world.new ≡ world.old) }
 {
     if !world.tree.holds(root) {
         return Ok(Reply::Brief(Brief::Own(OwnError::NoSuchObject)));
@@ -65,6 +66,7 @@ pub(crate) fn create_walker(
     ensures step { IfOk result (IsStep world.old world.new (numbered numbers)
         (CreateWalker root filter)) }
     ensures left { OnErr result (IsKept world.old world.new) }
+    ensures unchanged { OnErr result (world.new ≡ world.old) }
 {
     if !world.tree.holds(root) {
         return Ok(Reply::Brief(Brief::Own(OwnError::NoSuchObject)));
@@ -186,6 +188,7 @@ pub(crate) fn traverse(
     ensures step { IfOk result (IsStep world.old world.new (numbered numbers)
         (traversing_view command)) }
     ensures left { OnErr result (IsKept world.old world.new) }
+    ensures unchanged { OnErr result (world.new ≡ world.old) }
 {
     match command {
         Traversing::CreateIterator(root, filter) => create_iterator(world, numbers, root, filter),

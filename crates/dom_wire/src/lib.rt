@@ -16,7 +16,7 @@ mod texts;
 mod values;
 
 /// The session's types that lines are read for and printed from.
-pub use dom_session::{Brief, Command, Ended, Limits, OwnError, Reply, Session};
+pub use dom_session::{Brief, Command, Ended, Limits, OutOfMemory, OwnError, Reply, Session};
 pub use error::ReadError;
 pub use printing::write_reply;
 pub use reading::read_line;

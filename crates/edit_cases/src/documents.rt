@@ -5,38 +5,38 @@ use crate::scenes::{Call, New, Row, When, played};
 use dom_kinds::{DomError, Kind};
 use std::test::Fail;
 
-const DOUBLE: Call = Call::New(New::Clone(1, true));
+const DOUBLE: Row = Row::Once(Call::New(New::Clone(1, true)));
 
 const REFUSED: DomError = DomError::HierarchyRequestError;
 
 /// Document 0 has 256 comments: 2, 4, 6, 7, 9 to 12, 14 to 21, 23 to 38, 40 to 71, 73 to 136, and 138 to 265. Fragment 1 had them, and copies of
 /// itself. Doctype 266, elements 267 and 268, and fragment 269 with element 270 in it are roots.
 const MANY_COMMENTS: &[Row] = &[
-    Row::Do(Call::New(New::Make(Kind::DocumentFragment, ""))),
-    Row::Do(Call::New(New::Make(Kind::Comment, ""))),
+    Row::Once(Call::New(New::Make(Kind::DocumentFragment, ""))),
+    Row::Once(Call::New(New::Make(Kind::Comment, ""))),
     Row::Do(Call::Append(1, 2)),
-    Row::Do(DOUBLE),
+    DOUBLE,
     Row::Do(Call::Append(1, 3)),
-    Row::Do(DOUBLE),
+    DOUBLE,
     Row::Do(Call::Append(1, 5)),
-    Row::Do(DOUBLE),
+    DOUBLE,
     Row::Do(Call::Append(1, 8)),
-    Row::Do(DOUBLE),
+    DOUBLE,
     Row::Do(Call::Append(1, 13)),
-    Row::Do(DOUBLE),
+    DOUBLE,
     Row::Do(Call::Append(1, 22)),
-    Row::Do(DOUBLE),
+    DOUBLE,
     Row::Do(Call::Append(1, 39)),
-    Row::Do(DOUBLE),
+    DOUBLE,
     Row::Do(Call::Append(1, 72)),
-    Row::Do(DOUBLE),
+    DOUBLE,
     Row::Do(Call::Append(1, 137)),
     Row::Do(Call::Append(0, 1)),
-    Row::Do(Call::New(New::MakeBare(Kind::DocumentType))),
-    Row::Do(Call::New(New::Make(Kind::Element, ""))),
-    Row::Do(Call::New(New::Make(Kind::Element, ""))),
-    Row::Do(Call::New(New::Make(Kind::DocumentFragment, ""))),
-    Row::Do(Call::New(New::Make(Kind::Element, ""))),
+    Row::Once(Call::New(New::MakeBare(Kind::DocumentType))),
+    Row::Once(Call::New(New::Make(Kind::Element, ""))),
+    Row::Once(Call::New(New::Make(Kind::Element, ""))),
+    Row::Once(Call::New(New::Make(Kind::DocumentFragment, ""))),
+    Row::Once(Call::New(New::Make(Kind::Element, ""))),
     Row::Do(Call::Append(269, 270)),
 ];
 

@@ -104,6 +104,8 @@ pub enum Call {
 pub enum Row {
     /// Makes a call, and repeats it if it is out of memory.
     Do(Call),
+    /// Makes a call once, and ends the scene if it is out of memory: it may have used a number, and later rows name nodes by numbers.
+    Once(Call),
     /// Makes a call, which may be out of memory.
     Try(Call),
     /// Makes a call if the last tried call was refused.
@@ -258,6 +260,11 @@ fn play_row(
     match row {
         Row::Do(call) => {
             if !tried(rt, world, alloc, course, call) && !tried(rt, world, alloc, course, call) {
+                return Err(AllocError);
+            }
+        }
+        Row::Once(call) => {
+            if !tried(rt, world, alloc, course, call) {
                 return Err(AllocError);
             }
         }

@@ -8,7 +8,7 @@ ghost use Rattle.dom_session.specs.Stands.{StandsFor};
 ghost use Rattle.dom_session.specs.Views.{reply_view};
 ghost use Rattle.uses.specs.Turns.{AreAnswered};
 
-use dom_session::{Command, Ended, Limits, Making, NodeId, Reply, Session, Texts, Units};
+use dom_session::{Command, Limits, Making, NodeId, OutOfMemory, Reply, Session, Texts, Units};
 use std::alloc::Global;
 
 /// Sets the data of a node, and reads it. Fails for a node without data, and for a number without a node.
@@ -16,7 +16,7 @@ pub fn set_and_read(
     session: &mut Session,
     node: NodeId,
     text: Units,
-) -> Result<(Reply, Reply), Ended>
+) -> Result<(Reply, Reply), OutOfMemory>
     ensures replies { IfOk result (λ replies. (w : World) → StandsFor session.old w →
         AreAnswered replies.0 replies.1 w session.old session.new (SetData node text)
         (GetData node)) }
@@ -28,7 +28,7 @@ pub fn set_and_read(
 }
 
 /// Makes a Document in a new session. It is node 1, because the session begins with another Document.
-pub fn second_document(alloc: Global) -> Result<Reply, Ended>
+pub fn second_document(alloc: Global) -> Result<Reply, OutOfMemory>
     ensures { IfOk result (λ reply. reply_view reply ≡ model.Done (model.Number 1)) }
 {
     let limits = Limits {
@@ -36,7 +36,7 @@ pub fn second_document(alloc: Global) -> Result<Reply, Ended>
         line: 65536,
     };
     let Ok(mut session) = Session::new(alloc, limits) else {
-        return Err(Ended);
+        return Err(OutOfMemory::Ended);
     };
     session.apply(Command::Making(Making::NewDocument))
 }

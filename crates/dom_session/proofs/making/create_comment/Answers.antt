@@ -12,6 +12,7 @@ returns c = record {
       (c.number.ensures ∙ c.in_ok-id.ensures.number)
       (rw (c.nameless.ensures, c.in_ok-body.ensures) at c.in_ok-id.ensures.made) c.make.ensures.whole;
   left = tt;
+  as_it_was = tt;
 }
 
 pub returns-in-Some : goal.returns-in-Some
@@ -19,4 +20,5 @@ returns-in-Some c = record {
   step = step-stays (numbered c.args.numbers) (CreateComment c.args.document c.args.text) (reply_of c.in-Some.reply) c.args.world.now
       (λ w shown. refused-create_comment c.args.world.now c.args.numbers c.args.document c.args.text w (reply_view (reply_of c.in-Some.reply)) shown (sym c.in-Some.ensures));
   left = tt;
+  as_it_was = tt;
 }

@@ -15,6 +15,7 @@ returns c =
           (c.number.ensures ∙ c.in_ok-id.ensures.number)
           (rw (c.in_ok-label.ensures, c.nothing.ensures) at c.in_ok-id.ensures.made) c.make.ensures.whole;
       left = tt;
+      as_it_was = tt;
     }
 
 pub returns-in-Some : goal.returns-in-Some
@@ -22,4 +23,5 @@ returns-in-Some c = record {
   step = step-stays (numbered c.args.numbers) (CreateElement c.args.document c.args.name.now) (reply_of c.in-Some.reply) c.args.world.now
       (λ w shown. refused-create_element c.args.world.now c.args.numbers c.args.document c.args.name.now w (reply_view (reply_of c.in-Some.reply)) shown (sym c.in-Some.ensures));
   left = tt;
+  as_it_was = tt;
 }

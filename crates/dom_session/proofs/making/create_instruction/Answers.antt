@@ -16,6 +16,7 @@ returns c =
           (c.number.ensures ∙ c.in_ok-id.ensures.number)
           (rw (c.in_ok-label.ensures, c.as_str-2.ensures.value, c.in_ok-body.ensures) at c.in_ok-id.ensures.made) c.make.ensures.whole;
       left = tt;
+      as_it_was = tt;
     }
 
 pub returns-in-Some : goal.returns-in-Some
@@ -23,4 +24,5 @@ returns-in-Some c = record {
   step = step-stays (numbered c.args.numbers) (CreatePI c.args.document (string_bytes c.args.target) c.args.text) (reply_of c.in-Some.reply) c.args.world.now
       (λ w shown. refused-create_instruction c.args.world.now c.args.numbers c.args.document (string_bytes c.args.target) c.args.text w (reply_view (reply_of c.in-Some.reply)) shown (sym c.in-Some.ensures));
   left = tt;
+  as_it_was = tt;
 }

@@ -15,4 +15,5 @@ returns c =
           (c.number.ensures ∙ c.in_ok-id.ensures.number)
           (rw (c.document_label.ensures, c.nothing.ensures) at c.in_ok-id.ensures.made) c.make.ensures.whole;
       left = tt;
+      as_it_was = tt;
     }

@@ -14,4 +14,5 @@ returns c =
       step = step-create v c.requires.shown.shows.whole (numbered c.args.numbers) c.make.new.self (Brief (Number c.number.result)) room (ap (λ k. model_reply.Done (model_reply.Number k)) number)
           c.in_ok-id.ensures.ok c.make.ensures.names;
       left = tt;
+      unchanged = tt;
     }

@@ -15,6 +15,7 @@ returns-in_ok-observe-in-Ok c =
       step = λ b. step-observe v c.requires.shown.shows.whole b c.args.observer c.args.node c.args.options c.observe.new.self (Brief Nothing) there held options.0 refl
           (rw options.1 at c.in_ok-observe-in-Ok.ensures.ok) c.observe.ensures.names;
       left = tt;
+      unchanged = tt;
     }
 
 pub returns-in-Err : goal.returns-in-Err
@@ -25,4 +26,5 @@ returns-in-Err c =
     record {
       step = λ b. step-not_observed v c.requires.shown.shows.whole b c.args.observer c.args.node c.args.options c.in-Err.error (Brief (Dom c.in-Err.error)) there held (settled-err c.args.options c.in-Err.error (sym c.settle.ensures ∙ c.in-Err.is)) refl;
       left = tt;
+      unchanged = tt;
     }

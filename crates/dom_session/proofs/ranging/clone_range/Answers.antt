@@ -16,6 +16,7 @@ returns c =
       step = rw number (step-ranges (numbered c.args.numbers) (CloneRange c.args.range) (Brief (Number n)) old c.make.new.self (old.ranges.ranges ++ Some range ∷ []) refl c.requires.shown c.in_ok-id.ensures.made
           (λ w shown. answer-clone_range old (numbered c.args.numbers) w shown c.args.range range c.ends-start.ensures.ends room));
       left = tt;
+      unchanged = tt;
     }
 
 pub make-requires-clause-in_order : goal.make-requires-clause-in_order

@@ -34,6 +34,7 @@ returns c =
       step = rw number (step-ranges (numbered c.args.numbers) (CreateRange d) (Brief (Number n)) old c.make.new.self (old.ranges.ranges ++ Some (collapsed_at (record { node = d; offset = 0 })) ∷ []) refl c.requires.shown c.in_ok-id.ensures.made
           (λ w shown. answer-create_range old (numbered c.args.numbers) w shown d there kind room));
       left = tt;
+      unchanged = tt;
     }
 
 pub returns-then-ne : goal.returns-then-ne

@@ -26,6 +26,7 @@ returns-in_ok-id-in-Ok c =
       step = rw number (step-statics (numbered c.args.numbers) (CreateStaticRange start end) (Brief (Number n)) old c.make.new.self (old.statics ++ Some range ∷ []) refl c.requires.shown c.in_ok-id-in-Ok.ensures.made held
           (λ w shown. answer-create_static_range old (numbered c.args.numbers) w shown start end first last room check));
       left = tt;
+      unchanged = tt;
     }
 
 pub returns-in-Err : goal.returns-in-Err
@@ -43,4 +44,5 @@ returns-in-Err c =
       step = step-stays (numbered c.args.numbers) (CreateStaticRange start end) (Brief (Dom c.in-Err.error)) old
           (λ w shown. refusal-create_static_range old (numbered c.args.numbers) w shown start end first last room c.in-Err.error check);
       left = tt;
+      unchanged = tt;
     }

@@ -13,4 +13,5 @@ returns c =
     record {
       step = step-create_iterator v c.requires.shown c.args.numbers c.args.root c.number.result c.args.filter c.make.new.self (Brief (Number c.number.result)) there room (c.number.ensures ∙ c.in_ok-id.ensures.number) refl c.in_ok-id.ensures.made;
       left = tt;
+      unchanged = tt;
     }

@@ -1,12 +1,20 @@
-use Rattle.std.proofs.Common.{◌≡◌, true, false, tests, rules}
-use Rattle.dom_session.specs.{Bounding.bounds_of, Limiting.numbered, Views.command_view}
-use Rattle.dom_session.proofs.{Applying.IsShown-step, Applying.IsAnswered-step, WorldsKept.left_ended, WorldsKept.left_open}
+use Rattle.std.proofs.Common.{◌≡◌, true, false, ap, tests, rules}
+use Rattle.dom_edit.specs.declared.world.World.{World}
+use Rattle.dom_session.specs.{Bounding.bounds_of, Limiting.numbered, Views.command_view, GoingOn.goes_on}
+use Rattle.dom_session.proofs.{Applying.IsShown-step, Applying.IsAnswered-step, WorldsKept.left_ended, WorldsKept.left_open, GoingOn.as_before, GoingOn.as_before-world, GoingOn.shown_as, GoingOn.going-asked}
 use Rattle.dom_session.proofs.session.Session.apply.Goals as goal
 
 pub invariant_of-self : goal.invariant_of-self
 invariant_of-self c =
     let on : c.self.inside.ended ≡ false = cc in
     let shown = IsShown-step c.self.inside.world c.answered.new.world (numbered c.self.inside.limits.numbers) (command_view c.args.command) c.in-Ok.reply (c.self.invariant.1 on) c.in-Ok.ensures.step in
+    (c.self.invariant.0, λ _. shown, shown.shows.whole)
+
+pub invariant_of-self-then-stays_open : goal.invariant_of-self-then-stays_open
+invariant_of-self-then-stays_open c =
+    let on : c.self.inside.ended ≡ false = cc in
+    let going : goes_on (command_view c.args.command) ≡ true = cc in
+    let shown = shown_as c.self.inside.world c.answered.new.world (c.in-Err.ensures.goes_on going) (c.self.invariant.1 on) in
     (c.self.invariant.0, λ _. shown, shown.shows.whole)
 
 pub returns-in-Ok-clause-answers : goal.returns-in-Ok-clause-answers
@@ -36,8 +44,8 @@ returns-then-self-clause-left c =
 pub returns-in-Ok-clause-left : goal.returns-in-Ok-clause-left
 returns-in-Ok-clause-left c = tt
 
-pub returns-in-Err-clause-left : goal.returns-in-Err-clause-left
-returns-in-Err-clause-left c =
+pub returns-else-stays_open-clause-left : goal.returns-else-stays_open-clause-left
+returns-else-stays_open-clause-left c =
     let on : c.self.inside.ended ≡ false = cc in
     rw (← c.self.view_is)
     (left_open (record { world = c.self.inside.world; bounds = bounds_of c.self.inside.limits; ended = c.self.inside.ended })
@@ -65,20 +73,29 @@ returns-in-Ok-clause-stays_ended c = search (tests, rules)
 pub returns-in-Ok-clause-bounds : goal.returns-in-Ok-clause-bounds
 returns-in-Ok-clause-bounds c = search (tests, rules)
 
-pub returns-in-Err-clause-answers : goal.returns-in-Err-clause-answers
-returns-in-Err-clause-answers c = search (tests, rules)
+pub returns-then-stays_open-clause-left : goal.returns-then-stays_open-clause-left
+returns-then-stays_open-clause-left c =
+    let on : c.self.inside.ended ≡ false = cc in
+    rw (← c.self.view_is) (left_open (record { world = c.self.inside.world; bounds = bounds_of c.self.inside.limits; ended = c.self.inside.ended }) (record { world = c.answered.new.world; bounds = bounds_of c.self.inside.limits; ended = c.self.inside.ended }) on c.in-Err.ensures.left)
 
-pub returns-in-Err-clause-refused : goal.returns-in-Err-clause-refused
-returns-in-Err-clause-refused c = search (tests, rules)
+pub returns-then-stays_open-clause-same : goal.returns-then-stays_open-clause-same
+returns-then-stays_open-clause-same c =
+    let going : goes_on (command_view c.args.command) ≡ true = cc in
+    rw (← c.self.view_is) (λ _. as_before-world c.self.inside.world c.answered.new.world (bounds_of c.self.inside.limits) c.self.inside.ended (c.in-Err.ensures.goes_on going))
 
-pub returns-in-Err-clause-open : goal.returns-in-Err-clause-open
-returns-in-Err-clause-open c = search (tests, rules)
+pub returns-then-stays_open-clause-asked : goal.returns-then-stays_open-clause-asked
+returns-then-stays_open-clause-asked c =
+    rw (← c.self.view_is) (λ asked. ap (λ (v : World). record { world = v; bounds = bounds_of c.self.inside.limits; ended = c.self.inside.ended }) (c.in-Err.ensures.asked asked))
 
-pub returns-in-Err-clause-ended : goal.returns-in-Err-clause-ended
-returns-in-Err-clause-ended c = search (tests, rules)
+pub returns-then-stays_open-clause-all_or_nothing : goal.returns-then-stays_open-clause-all_or_nothing
+returns-then-stays_open-clause-all_or_nothing c =
+    rw (← c.self.view_is) (λ going. as_before-world c.self.inside.world c.answered.new.world (bounds_of c.self.inside.limits) c.self.inside.ended (c.in-Err.ensures.goes_on going))
 
-pub returns-in-Err-clause-stays_ended : goal.returns-in-Err-clause-stays_ended
-returns-in-Err-clause-stays_ended c = search (tests, rules)
+pub returns-else-stays_open-clause-asked : goal.returns-else-stays_open-clause-asked
+returns-else-stays_open-clause-asked c asked = absurd (cc (going-asked (command_view c.args.command) asked))
 
-pub returns-in-Err-clause-bounds : goal.returns-in-Err-clause-bounds
-returns-in-Err-clause-bounds c = search (tests, rules)
+pub returns-else-stays_open-clause-all_or_nothing : goal.returns-else-stays_open-clause-all_or_nothing
+returns-else-stays_open-clause-all_or_nothing c going = absurd (cc going)
+
+pub returns-then-self-clause-all_or_nothing : goal.returns-then-self-clause-all_or_nothing
+returns-then-self-clause-all_or_nothing c _ = as_before c.args.self.now

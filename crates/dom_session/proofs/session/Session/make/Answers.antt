@@ -1,10 +1,16 @@
 use Rattle.std.proofs.Common.{◌≡◌, false}
 use Rattle.dom_session.specs.{Bounding.bounds_of, Limiting.numbered, Brief.reply_of, Views.making_view}
-use Rattle.dom_session.proofs.Applying.{IsShown-step, IsAnswered-making}
+use Rattle.dom_session.proofs.{Applying.IsShown-step, Applying.IsAnswered-making, WorldsKept.left_open, GoingOn.as_before, GoingOn.as_before-world, GoingOn.shown_as}
 use Rattle.dom_session.proofs.session.Session.make.Goals as goal
 
 pub invariant_of-self : goal.invariant_of-self
 invariant_of-self c =
+    let on : c.self.inside.ended ≡ false = cc in
+    let shown = shown_as c.self.inside.world c.make_nodes.new.world c.in_default.ensures.as_it_was (c.self.invariant.1 on) in
+    (c.self.invariant.0, λ _. shown, shown.shows.whole)
+
+pub invariant_of-self-2 : goal.invariant_of-self-2
+invariant_of-self-2 c =
     let on : c.self.inside.ended ≡ false = cc in
     let shown = IsShown-step c.self.inside.world c.make_nodes.new.world (numbered c.self.inside.limits.numbers) (making_view c.args.command) (reply_of c.in-Ok.reply) (c.self.invariant.1 on) c.in-Ok.ensures.step in
     (c.self.invariant.0, λ _. shown, shown.shows.whole)
@@ -15,3 +21,19 @@ returns-clause-answers c =
     (IsAnswered-making (record { world = c.self.inside.world; bounds = bounds_of c.self.inside.limits; ended = c.self.inside.ended })
     (record { world = c.make_nodes.new.world; bounds = bounds_of c.self.inside.limits; ended = c.self.inside.ended })
     c.args.command (reply_of c.in-Ok.reply) c.in-Ok.ensures.step)
+
+pub returns-in_default-clause-left : goal.returns-in_default-clause-left
+returns-in_default-clause-left c =
+    let on : c.self.inside.ended ≡ false = cc in
+    rw (← c.self.view_is) (left_open (record { world = c.self.inside.world; bounds = bounds_of c.self.inside.limits; ended = c.self.inside.ended }) (record { world = c.make_nodes.new.world; bounds = bounds_of c.self.inside.limits; ended = c.self.inside.ended }) on c.in_default.ensures.left)
+
+pub returns-in_default-clause-same : goal.returns-in_default-clause-same
+returns-in_default-clause-same c =
+    rw (← c.self.view_is) (λ _. as_before-world c.self.inside.world c.make_nodes.new.world (bounds_of c.self.inside.limits) c.self.inside.ended c.in_default.ensures.as_it_was)
+
+pub returns-in_default-clause-made : goal.returns-in_default-clause-made
+returns-in_default-clause-made c =
+    rw (← c.self.view_is) (as_before-world c.self.inside.world c.make_nodes.new.world (bounds_of c.self.inside.limits) c.self.inside.ended c.in_default.ensures.as_it_was)
+
+pub returns-then-self-clause-made : goal.returns-then-self-clause-made
+returns-then-self-clause-made c = as_before c.args.self.now

@@ -1,0 +1,170 @@
+/* Sessions that go on after an allocation was refused. Each allocation of each question, of each call that makes an object and of a notification is
+ * refused in turn, over a document of some hundred nodes. The call then says that it was refused memory, and its out pointers are as they were. After
+ * that the session answers two hundred further lines as one that was never asked. Linked with --wrap for malloc, realloc and free. */
+#include "refusing.h"
+#include "wanting.h"
+#include <string.h>
+
+enum { PARAGRAPHS = 100,
+    LINES = 200,
+    NONE = 7,
+    ROOM = 1 << 20 };
+
+struct said {
+    size_t length;
+    char text[ROOM];
+};
+
+static struct said due, got;
+
+/* An article with paragraphs, each of them with a text and an attribute, and one object of each other kind. */
+static void build(void)
+{
+    hp_options options = HP_OPTIONS_INIT;
+    uint32_t made = 0, paragraph;
+    options.child_list = options.subtree = options.attributes = 1;
+    int said = hp_open(&session, 100000, 1000);
+    said |= hp_create_element(&session, 0, hp_name("article"), &made) | hp_append_child(&session, 0, made);
+    for (int at = 0; at < PARAGRAPHS; at++) {
+        said |= hp_create_element(&session, 0, hp_name("paragraph"), &paragraph);
+        said |= hp_set_attribute(&session, paragraph, hp_name("language"), hp_text_literal("English"));
+        said |= hp_create_text(&session, 0, hp_text_literal("some text of it"), &made);
+        said |= hp_append_child(&session, paragraph, made) | hp_append_child(&session, 1, paragraph);
+    }
+    said |= hp_create_range(&session, 0, &made) | hp_set_start(&session, 0, 1, 10) | hp_set_end(&session, 0, 1, 90);
+    said |= hp_create_static_range(&session, 1, 0, 1, 5, &made);
+    said |= hp_create_iterator(&session, 1, HP_NONE, NULL, 0, NULL, 0, NULL, 0, &made) | hp_next_node(&session, 0, &made);
+    said |= hp_create_walker(&session, 1, HP_NONE, NULL, 0, NULL, 0, NULL, 0, &made);
+    said |= hp_create_observer(&session, &made) | hp_observe(&session, 0, 0, &options, NULL, 0, NULL, 0);
+    said |= hp_set_attribute(&session, 1, hp_name("class"), hp_text_literal("first"));
+    WANT(said == HP_OK);
+}
+
+/* Says a line, and notes its reply. */
+static void line(struct said *to, const char *given)
+{
+    hp_bytes reply;
+    WANT(hp_line(&session, (const uint8_t *)given, strlen(given)) != HP_OUT_OF_MEMORY);
+    WANT(hp_reply_line(&session, &reply) == HP_OK && to->length + reply.length <= ROOM);
+    memcpy(to->text + to->length, reply.bytes, reply.length);
+    to->length += reply.length;
+}
+
+/* One of the further lines, about a paragraph. */
+static void further_line(char *to, size_t room, int at)
+{
+    static const char *const forms[] = {
+        "[\"createElement\",0,\"section\"]", "[\"createText\",0,\"more\"]", "[\"setAttribute\",%d,\"id\",\"it\"]", "[\"tree\",%d]",
+        "[\"cloneNode\",%d,true]", "[\"textContent\",%d]", "[\"nextNode\",0]", "[\"rangeText\",0]", "[\"walk\",0,\"nextNode\"]",
+        "[\"createRange\",0]", "[\"createStaticRange\",1,0,%d,1]", "[\"remove\",%d]", "[\"notify\"]", "[\"createObserver\"]",
+        "[\"createIterator\",%d,4294967295,[]]", "[\"createWalker\",%d,4294967295,[]]", "[\"observe\",0,%d,{\"childList\":true}]",
+        "[\"range\",0]", "[\"staticRange\",0]", "[\"children\",1]"
+    };
+    int paragraph = 2 + 2 * (at % PARAGRAPHS);
+    snprintf(to, room, forms[at % (int)(sizeof forms / sizeof *forms)], paragraph);
+}
+
+static void further(struct said *to)
+{
+    char given[200];
+    to->length = 0;
+    for (int at = 0; at < LINES; at++) {
+        further_line(given, sizeof given, at);
+        line(to, given);
+    }
+    line(to, "[\"tree\",0]");
+}
+
+/* The questions and the takings of records that take memory, up to QUESTIONS, and the calls that make an object. */
+enum { QUESTIONS = 15,
+    CALLS = 31 };
+
+static uint8_t ask(int number)
+{
+    static const char tree[] = "[\"tree\",0]";
+    switch (number) {
+    case 0: return hp_tree(&session, 0);
+    case 1: return hp_text_content(&session, 1);
+    case 2: return hp_get_attribute(&session, 2, hp_name("language"));
+    case 3: return hp_attribute_names(&session, 2);
+    case 4: return hp_children(&session, 1);
+    case 5: return hp_data(&session, 3);
+    case 6: return hp_range_text(&session, 0);
+    case 7: return hp_node(&session, 2, &(hp_place){ 0 });
+    case 8: return hp_substring_data(&session, 3, 1, 4);
+    case 9: return hp_pending(&session);
+    case 10: return hp_print(&session);
+    case 11: return hp_take_pending(&session);
+    case 12: return hp_notify(&session);
+    case 13: return hp_is_point_in_range(&session, 0, 1, 20, &(uint8_t){ 0 });
+    default: return hp_get_attribute(&session, 2, (const uint8_t *)tree, sizeof tree - 1);
+    }
+}
+
+static uint8_t make(int number, uint32_t *made)
+{
+    static const uint8_t names[] = { 'a', 'b', 'c', 'c' }, verdicts[] = { 1, 3 };
+    static const uint32_t lengths[] = { 1, 3 };
+    hp_options options = HP_OPTIONS_INIT;
+    options.attributes = options.attribute_filter = 1;
+    switch (number) {
+    case 0: return hp_create_element(&session, 0, hp_name("a long name of an element"), made);
+    case 1: return hp_create_text(&session, 0, hp_text_literal("a text"), made);
+    case 2: return hp_create_comment(&session, 0, hp_text_literal("aside"), made);
+    case 3: return hp_create_pi(&session, 0, hp_name("a long target"), hp_text_literal("data"), made);
+    case 4: return hp_create_doctype(&session, 0, hp_name("html"), hp_name("public"), hp_name("system"), made);
+    case 5: return hp_create_fragment(&session, 0, made);
+    case 6: return hp_new_document(&session, made);
+    case 7: return hp_create_range(&session, 0, made);
+    case 8: return hp_clone_range(&session, 0, made);
+    case 9: return hp_create_static_range(&session, 1, 0, 1, 50, made);
+    case 10: return hp_create_iterator(&session, 1, HP_NONE, names, sizeof names, lengths, 2, verdicts, 2, made);
+    case 11: return hp_create_walker(&session, 1, HP_NONE, names, sizeof names, lengths, 2, verdicts, 2, made);
+    case 12: return hp_create_observer(&session, made);
+    case 13: return hp_observe(&session, 0, 2, &options, names, sizeof names, lengths, 2);
+    case 14: return hp_observe(&session, 0, 0, &options, names, sizeof names, lengths, 2);
+    default: return hp_create_element(&session, 0, hp_name("p"), made);
+    }
+}
+
+static uint8_t call(int number, uint32_t *made)
+{
+    return number < QUESTIONS ? ask(number) : make(number - QUESTIONS, made);
+}
+
+/* One call with one allocation refused: whether the refusal was met. */
+static bool once(int number, unsigned long at, unsigned long *refusals)
+{
+    uint32_t made = NONE;
+    hp_counts in_use_now;
+    build();
+    refuse(at);
+    uint8_t status = call(number, &made);
+    bool was_met = asked >= at;
+    counts = false;
+    WANT(status != HP_ENDED && (status == HP_OUT_OF_MEMORY ? was_met : true));
+    if (status == HP_OUT_OF_MEMORY) {
+        WANT(made == NONE && hp_in_use(&session, &in_use_now) == HP_OK);
+        further(&got);
+        WANT(got.length == due.length && memcmp(got.text, due.text, due.length) == 0);
+        ++*refusals;
+    }
+    WANT(hp_close(&session) == HP_OK);
+    return was_met;
+}
+
+int main(void)
+{
+    unsigned long refusals = 0;
+    build();
+    further(&due);
+    WANT(hp_close(&session) == HP_OK);
+    for (int number = 0; number < CALLS; number++) {
+        for (unsigned long at = 1; once(number, at, &refusals) && !faults; at++)
+            continue;
+        if (faults)
+            printf("in call %d\n", number);
+    }
+    printf("%d calls, %lu refusals after which a session went on\n", CALLS, refusals);
+    return faults || refusals < CALLS;
+}
