@@ -1,8 +1,8 @@
-pub mod Held
-pub mod Names
-pub mod TooFew
-pub mod OpenReads
-pub mod Copies
-pub mod Faults
-pub mod Asked
+pub mod HeldLemmas
+pub mod Utf8NameLemmas
+pub mod RulesFromLemmas
+pub mod IsReadOrEndedLemmas
+pub mod LaidOverLemmas
+pub mod FaultLemmas
+pub mod AsksLemmas
 pub mod Spared
