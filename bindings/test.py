@@ -1,8 +1,8 @@
 #!/usr/bin/env python3
-"""The tests of what is linked: that each manifest has the version of bindings/VERSION, the library for C, and then each language that stands on it.
+"""Tests the bindings: that each manifest has the version of bindings/VERSION, the library for C, and then each language that links it.
 
-Each other part is a script bindings/NAME/test.py, which makes what it needs and leaves out, with a line that says so, what this machine has no tools for.
-The last line says how many parts passed and failed.
+Each part but the first is a script bindings/NAME/test.py, which makes the files that it needs. Tests that this machine has no tools for are left
+out, with a line that says so. The last line says how many parts passed and failed.
 """
 import argparse
 import os

@@ -1,11 +1,14 @@
 """Checks the words of pages and doc comments against the rules of docs/writing.md.
 
 It reports words that the page's list replaces, sentences of more than 35 words, and doc comments whose first line does not begin with a verb in the
-third person. COVERED names the files that have to pass.
+third person. COVERED and FOLDERS name the files that have to pass: in code the words of comments, docstrings, messages and names of tests. Files that are
+named on the command line are checked alone.
 """
+import ast
 import glob
 import os
 import re
+import sys
 
 from start import ROOT
 
@@ -19,6 +22,10 @@ COVERED = (
     "crates/*/src/**/*.rt",
     "docs/*.md",
 )
+# The folders of other code, whose files of the kinds in COMMENTS have to pass.
+FOLDERS = ("bench", "bindings", "domserve", "examples", "referee", "release", "serving", "tools")
+# Folders that hold what was built or fetched.
+MADE = {"__pycache__", "build", "dist", "node_modules", "out", "target"}
 # The page that lists the words to avoid, so it may have them.
 LISTING = "docs/writing.md"
 AVOIDED = re.compile(
@@ -81,13 +88,58 @@ def faults_of_source(path):
             yield f"{path}:{number + 1}: the first line begins with no verb in the third person: {found[1][:70]}"
 
 
+# How comments are written in the other files that have to pass, by the ends of their names: a pattern of one comment, or of a run of lines.
+LINES = r"(?:^[ \t]*{0}[^\n]*\n)+|(?<=[;{{}}(),\w]) +{0} [^\n]*\n"
+BLOCK = r"/\*.*?\*/"
+COMMENTS = {
+    ".py": re.compile(LINES.format("#"), re.M),
+    ".sql": re.compile(LINES.format("--"), re.M),
+    ".1": re.compile(r"^[^.'\n][^\n]*(?:\n[^.'\n][^\n]*)*\n", re.M),
+    **{it: re.compile(BLOCK + "|" + LINES.format("//"), re.M | re.S) for it in (".c", ".h", ".js", ".mjs", ".cjs", ".ts", ".rs", ".go")},
+}
+COMMENT_MARKS = re.compile(r"^[ \t]*(?:/\*\*?|\*/|\*(?= |$)|//[/!]?|#|--) ?|\*/[ \t]*$", re.M)
+
+
+def comments_of(path, text):
+    """Yields the comments of a file and the docstrings of one of Python, each with the number of its line."""
+    for found in COMMENTS[os.path.splitext(path)[1]].finditer(text):
+        yield text.count("\n", 0, found.start()) + 1, COMMENT_MARKS.sub("", found[0])
+    if path.endswith(".py"):
+        for it in ast.walk(ast.parse(text)):
+            if isinstance(it, (ast.Module, ast.ClassDef, ast.FunctionDef)) and ast.get_docstring(it):
+                yield it.body[0].lineno, ast.get_docstring(it)
+
+
+def faults_of_code(path):
+    """Yields the faults of another file: words anywhere in it, messages and names of tests among them, and long sentences of its comments."""
+    with open(f"{ROOT}/{path}", encoding="utf-8") as file:
+        text = file.read()
+    for number, line in enumerate(text.split("\n")):
+        found = AVOIDED.search(line)
+        if found:
+            yield f"{path}:{number + 1}: '{found[0]}' in: {line.strip()[:90]}"
+    for line, comment in comments_of(path, text):
+        for more, part in prose_of(comment):
+            for sentence in SENTENCE.split(part):
+                if len(sentence.split()) > MOST_WORDS:
+                    yield f"{path}:{line + more - 1}: {len(sentence.split())} words in one sentence: {sentence[:90]}"
+
 def files_of(patterns):
     found = {os.path.relpath(it, ROOT) for pattern in patterns for it in glob.glob(f"{ROOT}/{pattern}", recursive=True)}
-    return sorted(it for it in found if "/out/" not in it)
+    return sorted(it for it in found if not MADE & {*it.split("/")})
+
+
+def faults_of(path):
+    if path.endswith(".rt"):
+        return faults_of_source(path)
+    return faults_of_page(path) if path.endswith(".md") else faults_of_code(path)
 
 
 def check():
-    """Returns the faults of all files, and what holds without any."""
-    files = files_of(COVERED)
-    faults = [it for path in files for it in (faults_of_source(path) if path.endswith(".rt") else faults_of_page(path))]
-    return faults, f"{len(files)} files are in the words of {LISTING}"
+    """Returns the faults of all files, and a line that says what holds without any."""
+    files = files_of(COVERED) + files_of(f"{folder}/**/*{kind}" for folder in FOLDERS for kind in COMMENTS)
+    return [fault for path in files for fault in faults_of(path)], f"{len(files)} files are in the words of {LISTING}"
+
+
+if __name__ == "__main__":
+    print(*(fault for path in sys.argv[1:] for fault in faults_of(path)), sep="\n")

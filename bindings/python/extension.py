@@ -44,7 +44,7 @@ READ = {"numbers": "numbers_answer({})", "names": "names_answer({})", "text": "t
 LONG = {"hp_clone_node": "deep", "hp_import_node": "deep", "hp_close": None}
 # Calls after which nodes may be gone.
 LETTING_GO = {"hp_discard", "hp_close", "hp_line"}
-# What members take out of a tree or put into one: the function that is told, with the object by its place in C.
+# Calls of members that remove a node from a tree or insert one: the C function that updates the node's object, and its first argument.
 MOVING = {
     "hp_remove": "taken_out(self",
     "hp_remove_child": "taken_out(given[0]",
@@ -53,11 +53,11 @@ MOVING = {
     "hp_append_child": "placed(given[0]",
     "hp_insert_before": "placed(given[0]",
 }
-# Calls after which what is known of the order of a tree may be so no more.
+# Calls after which the cached order of a tree may be stale.
 MOVES = set()
 # Calls after which an element may have other attributes; a line may change those of any.
 RESHAPING = {"hp_set_attribute", "hp_remove_attribute", "hp_toggle_attribute"}
-# Calls after which nobody is told of what an observer has seen.
+# Calls after which the records of an observer are delivered to nobody.
 FORGETTING = {"hp_disconnect", "hp_release_observer"}
 # What notes the nodes that a member may leave without a parent, though they have no object.
 LEAVING = {"hp_set_text_content": "note_children", "hp_normalize": "note_texts"}
@@ -255,7 +255,7 @@ def member(name, export, words, answer):
     required = sum(not form.endswith("?") for _, form in words)
     short = name.rstrip("=").split(".")[1]
     reads = [f'sort(words, named, names, {required}, given, "{short}")', *(it for _, it, _ in made)] if words else []
-    # (what a node of another kind does not lend is told as by the command)
+    # (a node of another kind has no data to borrow: the member is refused as the command is)
     status = "status == HP_NOT_THERE ? HP_TYPE_ERROR : status" if answer == "lent" else "status"
     refusal = f'refused_of({status}, "{export.name[3:]}", self, {f"given, {len(words)}" if words else "NULL, 0"})'
     found = member_answer(answer, outs, words)

@@ -12,7 +12,7 @@ READS = {
     "get_attribute": "text?",
 }
 
-# Calls that begin by letting go of what nobody holds any more: those that make something, and those that take out nodes.
+# Calls that begin by freeing the things that nobody holds any more: those that make something, and those that remove nodes.
 LET_GO_FIRST = set(
     "new_document create_element create_text create_comment create_pi create_doctype create_fragment import_node clone_node split_text"
     " create_range clone_range create_static_range create_iterator create_walker create_observer extract_contents clone_contents"

@@ -1,9 +1,11 @@
 #!/usr/bin/env python3
-"""Writes the modules of huckleport that say what the library has: _signatures.py (constants, and the names of what calls are handed) and
-_core.pyi (the types of the extension module), both from the exports of crates/dom_c, and _commands.py (names and arguments) from
-docs/commands.json.
+"""Writes the modules of huckleport that describe the library:
 
-With --check nothing is written, and it fails where a module is not what the sources give.
+- _signatures.py, from the exports of crates/dom_c: the constants, and the names of the arguments of calls;
+- _core.pyi, from the same exports: the types of the extension module;
+- _commands.py, from docs/commands.json: the names and arguments of the commands.
+
+--check writes nothing, and fails if a module is out of date.
 """
 import argparse
 import json
@@ -39,7 +41,7 @@ def constants(found):
     statuses = [it for module in found if module.name == "status" for it in module.constants if it.type == "uint8_t"]
     text += "\n# How each status is printed.\nWORDS = {\n"
     text += "".join(f'    {it.name}: "{status_word(it.name)}",\n' for it in statuses) + "}\n"
-    text += "\n# What is said of a status where its word does not say it.\nMEANINGS = {\n"
+    text += "\n# The meaning of each status whose word does not say it.\nMEANINGS = {\n"
     text += "".join(f'    {it.name}: "{said(it.doc)}",\n' for it in statuses if it.doc) + "}\n"
     return text
 

@@ -1,9 +1,14 @@
 #!/usr/bin/env python3
 """Tests the Python package: that its made sources are those of the library, its types by mypy and stubtest, its pages by Sphinx, and all under tests.
 
-The extension module is built first; where it can't be, the tests are left out. They run by pytest where a Python has it, and else by unittest:
-with the Python that runs this, with Debian's where that one has parsers that this one has not, and with the oldest that the module is for
-and the newest, where these are there. Left out is a test that none of them has run.
+The extension module is built first; if it can't be built, the tests are left out. They run by pytest if a Python has it, otherwise by unittest.
+The Pythons are:
+
+- the one that runs this;
+- Debian's, if it has parsers that this one has not;
+- the oldest that the module is for, and the newest, if they are installed.
+
+A test that none of them has run is reported as left out.
 """
 import argparse
 import glob
@@ -99,7 +104,7 @@ def skipped_by(report):
 
 
 def run_all(python, seconds, **environment):
-    """Runs all tests by a Python, with some variables; answers whether that failed, and what was skipped."""
+    """Runs all tests by a Python, with some variables. Returns whether that failed, and the skipped tests with their reasons."""
     print(f"-- by {python}", flush=True)
     with tempfile.TemporaryDirectory() as folder:
         by_pytest = has(python, "pytest")
@@ -119,7 +124,7 @@ def tell_skipped(found):
 def kept(version):
     """A Python of a version, or nothing."""
     found = [shutil.which(f"python{version}") or "", *sorted(glob.glob(os.path.expanduser(KEPT.format(version))))]
-    # (what stands for a Python of pyenv may refuse to run)
+    # (pyenv's stand-in for a Python may refuse to run)
     return next((it for it in found if it and not fails(it, "-c", "", stderr=subprocess.DEVNULL)), "")
 
 

@@ -1,5 +1,5 @@
-/* Whole answers. What the library lends is copied first, and no object that the collector counts is made until all of it is: so neither the
- * collector nor a signal nor another thread can put another answer in its place. Then Python's objects are made of the copy. */
+/* Whole answers. All borrowed data of the library is copied first, before any object is made that the collector counts. So neither the
+ * collector nor a signal nor another thread can replace the answer meanwhile. Then Python's objects are made of the copy. */
 #ifndef HUCKLEPORT_ANSWERS_H
 #define HUCKLEPORT_ANSWERS_H
 
@@ -7,7 +7,7 @@
 
 /* ---- lists that grow */
 
-/* Room for so many numbers, in a list that has none. */
+/* Reserves room for count numbers, in a list that has none. */
 static bool numbers_reserve(Numbers *it, size_t count)
 {
     it->at = PyMem_Malloc((count + 1) * sizeof(uint32_t));
@@ -300,7 +300,7 @@ static PyObject *row_made(const Rows *rows, const Copied *it, PyObject *session,
     return named(calls, KIND_ROW, plain_tuple(parts, 7));
 }
 
-/* Stops the collector while many objects are made, of which none is garbage. Returns whether it was running. */
+/* Stops the collector while many objects are made, since none of them is garbage. Returns whether it was running. */
 static bool pause_collector(const State *state)
 {
     PyObject *is_on = PyObject_CallFunctionObjArgs(state->gc_is_enabled, NULL);
@@ -462,9 +462,9 @@ static bool records_taken(Records *to, Calls *calls)
     return false;
 }
 
-/* ---- records that were taken of an observer, of whom the library has them no more */
+/* ---- records that were taken from an observer, so the library has them no more */
 
-/* They stay with the session until somebody has them, also if memory is wanting meanwhile. No node is let go until then. */
+/* The session keeps these records until somebody has them, also if memory runs out meanwhile. No node is freed until then. */
 typedef struct Taken {
     uint32_t observer;
     Records records;
@@ -477,7 +477,7 @@ typedef struct Left {
     struct Left *next;
 } Left;
 
-/* Room for what is to be taken of an observer; or null, with an exception. */
+/* Makes an entry for the records that are taken from an observer next. Returns null, with an exception, if out of memory. */
 static Taken *taken_room(uint32_t observer)
 {
     Taken *found = zeroed(1, sizeof(Taken));
@@ -525,7 +525,7 @@ static bool is_answer_copied(Calls *calls)
     return calls->busy == FREE;
 }
 
-/* Takes out what was taken of an observer, in its order. */
+/* Removes the records that were taken from an observer, and returns them in their order. */
 static Taken *taken_out_of(Calls *calls, uint32_t observer)
 {
     Taken *found = NULL, **end = &found, **at = &calls->taken;
@@ -543,7 +543,7 @@ static Taken *taken_out_of(Calls *calls, uint32_t observer)
     return found;
 }
 
-/* Puts back what was taken of an observer. */
+/* Puts the records that were taken from an observer back, ahead of all others. */
 static void taken_back(Calls *calls, Taken *it)
 {
     Taken **end = &it;
@@ -562,7 +562,7 @@ static bool has_taken(const Calls *calls, uint32_t observer)
     return it != NULL;
 }
 
-/* Forgets what was taken of an observer. */
+/* Frees the records that were taken from an observer. */
 static void forget_taken(Calls *calls, uint32_t observer)
 {
     taken_end(calls, taken_out_of(calls, observer));
@@ -597,7 +597,7 @@ static PyObject *taken_made(const Taken *taken, PyObject *session, Calls *calls)
     return found;
 }
 
-/* ---- turns: observers are told one after another */
+/* ---- turns: observers are notified one after another */
 
 /* The observer of a number. One that a line made stays with the session. No code of Python runs here, which could be interrupted. */
 static PyObject *observer_of(uint32_t number, PyObject *session, Calls *calls)
@@ -613,8 +613,8 @@ static PyObject *observer_of(uint32_t number, PyObject *session, Calls *calls)
     return found;
 }
 
-/* Puts an observer and its records in the place that is free at the end of a list; or leaves all as it was, with an exception if memory is
- * wanting. */
+/* Puts an observer and its records in the free place at the end of a list. Returns false if nothing was changed, with an exception if out of
+ * memory. */
 static bool put_notice(PyObject *to, uint32_t number, PyObject *session, Calls *calls)
 {
     PyObject *notice = is_answer_copied(calls) ? PyTuple_New(2) : NULL;
@@ -647,7 +647,7 @@ static PyObject *caught(void)
     return fault;
 }
 
-/* What became of a notice: its observer has no callback, was told, or its callback raised. */
+/* The outcome of a notice: its observer has no callback, its callback has run, or its callback raised. */
 typedef enum { WITHOUT_CALLBACK, WAS_TOLD, HAS_RAISED } Told;
 
 /* Whether a callback has run: one by async def has given a coroutine, which nobody awaits. It ends here, and that is raised. */
@@ -681,8 +681,8 @@ static Told call_back(PyObject *notice)
     return is_well ? WAS_TOLD : HAS_RAISED;
 }
 
-/* The turns of one call: the lists that take what is told, what of it is kept, and the exceptions that were raised; and whether memory was
- * wanting, so that the next call has to tell the rest. */
+/* The turns of one call: lists of the delivered notices, of the notices that are kept for later, and of the exceptions that were raised. If memory
+ * runs out, is_short is set: the next call has to notify the rest. */
 typedef struct {
     PyObject *session, *told, *kept, *faults;
     Calls *calls;
@@ -698,19 +698,19 @@ static void take_fault(Turns *it)
     Py_XDECREF(fault);
 }
 
-/* Whether a callback may not have run to its end by no fault of its own: it was interrupted, or memory was wanting. */
+/* Checks whether a callback may have stopped early by no fault of its own: it was interrupted, or out of memory. */
 static bool is_cut_short(void)
 {
     return !PyErr_ExceptionMatches(PyExc_Exception) || PyErr_ExceptionMatches(PyExc_MemoryError);
 }
 
-/* A place at the end of a list, for what is to come. */
+/* Appends a free place to a list, for a notice. Returns false, with an exception, if out of memory. */
 static bool has_place(PyObject *list)
 {
     return PyList_Append(list, Py_None) == 0;
 }
 
-/* Takes away the place at the end of a list that took nothing. For want of memory it stays, as None, which the package passes over. */
+/* Removes the free place at the end of a list. If out of memory it stays, as None, which the package skips. */
 static void end_place(PyObject *list)
 {
     Py_ssize_t last = PyList_Size(list) - 1;
@@ -718,7 +718,7 @@ static void end_place(PyObject *list)
         PyErr_Clear();
 }
 
-/* Calls the callback. What was told to an observer without one, or to one that was cut short, is kept in the place for it. */
+/* Calls the callback of an observer. If it has none, or its callback was cut short, the notice is kept in the place for it. */
 static void tell(Turns *it, PyObject *notice)
 {
     Told told = call_back(notice);
@@ -767,7 +767,8 @@ static void turn_taken(Turns *it, Taken *room)
     end_place(it->kept);
 }
 
-/* The turn of an observer, once there is room for its records, and a place for them among what is told and among what is kept. */
+/* Takes the turn of an observer, once there is an entry for its records, and a place for its notice in both lists: of the delivered notices and of
+ * the kept ones. */
 static void take_turn(Turns *it, uint32_t observer)
 {
     Taken *room = taken_room(observer);
@@ -783,8 +784,8 @@ static void take_turn(Turns *it, uint32_t observer)
         end_place(it->told);
 }
 
-/* Tells observers one after another, also where callbacks raise, until one of them closes the session or memory is wanting. The session keeps
- * those that are still to be told. */
+/* Notifies observers one after another, also if callbacks raise, until one of them closes the session or memory runs out. In that last case the
+ * session keeps the observers that are still to be notified. */
 static void tell_all(Turns *it, Numbers *observers)
 {
     size_t at = 0;
@@ -802,7 +803,7 @@ static void tell_all(Turns *it, Numbers *observers)
     *observers = (Numbers){ NULL, NULL, 0, 0 };
 }
 
-/* Adds notices to those that are left for later; for want of memory the session has them beside. */
+/* Adds notices to the list of those that are left for later. If out of memory, the session keeps them apart from the list. */
 static void leave(Calls *calls, PyObject *left, PyObject *kept, Left *room)
 {
     Py_ssize_t end = PyList_Size(left);
@@ -831,8 +832,8 @@ static bool has_no_left(Calls *calls, PyObject *left)
     return true;
 }
 
-/* Ends the turns. If a callback raised or memory was wanting, what is kept is left for later; otherwise what was left before is told with the
- * rest. */
+/* Ends the turns. If a callback raised or memory ran out, the kept notices are left for later. Otherwise the notices that were left before are put
+ * ahead of the delivered ones. */
 static bool turns_end(Turns *it, PyObject *left, Left *room)
 {
     bool has_raised = PyList_Size(it->faults) > 0 || it->is_short;

@@ -1,6 +1,6 @@
-/* A tree that parsers build: each event is a call of the library, without an object of Python for what is made.
+/* A tree that parsers build: each event is a call of the library, and no object of Python is made for the new node.
  *
- * An element comes under its parent when it ends, while that one stands under none itself: so the depth costs nothing. What parsers tell is UTF-8. */
+ * An element is appended to its parent when it ends, while the parent has no parent itself: so the depth costs nothing. Parsers hand out UTF-8. */
 #ifndef HUCKLEPORT_BUILDING_H
 #define HUCKLEPORT_BUILDING_H
 
@@ -16,7 +16,7 @@ typedef struct {
 typedef struct {
     PyObject_HEAD
     Calls *calls;
-    /* The document of what is made, and the node under which it comes. */
+    /* The document of the new nodes, and the node under which they are put. */
     uint32_t document, root;
     /* Whether attributes are left out that the library refuses. */
     bool is_lenient;
@@ -31,7 +31,7 @@ typedef struct {
 
 /* ---- UTF-8 as units */
 
-/* The character that some bytes begin with; what is no UTF-8 is U+FFFD, a byte each. Returns how many bytes it has. */
+/* Decodes the character that some bytes begin with; a byte that is no UTF-8 is U+FFFD. Returns how many bytes the character has. */
 static size_t character_of(const uint8_t *octets, size_t length, Py_UCS4 *to)
 {
     static const Py_UCS4 least[] = { 0, 0, 0x80, 0x800, 0x10000 };
@@ -248,7 +248,7 @@ static bool building_begins(Builder *it)
     return false;
 }
 
-/* What was built is known from now on. */
+/* Caches the order of the tree that was built, for later calls. */
 static void building_ends(Builder *it)
 {
     moved(it->calls);
@@ -258,7 +258,7 @@ static void building_ends(Builder *it)
 
 /* ---- the object */
 
-/* Notes what is open, so that it is let go. */
+/* Notes the open elements, so that a later call discards them. */
 static void abandon(Builder *it)
 {
     for (size_t at = 0; at < it->open.length; at++)

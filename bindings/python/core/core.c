@@ -37,14 +37,14 @@ static PyMethodDef members_by_hand[] = {
 
 static PyMethodDef calls_by_hand[] = {
     { "keep", calls_keep, METH_VARARGS, "The object of a session, a class and a number: the same one each time." },
-    { "make", calls_make, METH_VARARGS, "The same of what was just made, which goes with its object." },
-    { "let_all_go", calls_let_all_go, METH_NOARGS, "Lets go of all that nobody holds." },
+    { "make", calls_make, METH_VARARGS, "The object of a number that was just made: the number is freed with its object." },
+    { "let_all_go", calls_let_all_go, METH_NOARGS, "Frees all that nobody holds." },
     { "note", calls_note, METH_O, "Notes nodes that a call may have left without a parent, though they have no object." },
     { "node_object", calls_node_object, METH_VARARGS, "The node of a session and a number." },
     { "read_name", calls_read_name, METH_VARARGS, "A part of the name of a node." },
     { "read_line", calls_read_line, METH_VARARGS, "The status of a line, and the line of its reply." },
     { "read_printed", calls_read_printed, METH_VARARGS, "A node as its line prints it." },
-    { "read_tree", calls_read_tree, METH_VARARGS, "The rows of a session and a node, at most so many." },
+    { "read_tree", calls_read_tree, METH_VARARGS, "The rows of a session and a node, up to a given number." },
     { "read_markup", calls_read_markup, METH_VARARGS, "A node and all below it as markup: texts with other rows between, and all names." },
     { "read_orders", calls_read_orders, METH_VARARGS, "Puts the names of the attributes of all elements of a tree that have several into a dict." },
     { "read_data_of", calls_read_data_of, METH_O, "The data of many nodes." },
@@ -52,7 +52,7 @@ static PyMethodDef calls_by_hand[] = {
     { "read_attribute_of", calls_read_attribute_of, METH_VARARGS, "The value of an attribute of many elements." },
     { "read_attributes_of", calls_read_attributes_of, METH_O, "The attributes of many elements, a dict each." },
     { "read_records", calls_read_records, METH_VARARGS, "The records of a session and an observer, which are taken." },
-    { "tell", calls_tell, METH_VARARGS, "Tells the observers of a session; the list takes what was told. Returns what was raised." },
+    { "tell", calls_tell, METH_VARARGS, "Notifies the observers of a session; a list takes the delivered notices. Returns the exceptions that were raised." },
     CALLS_MADE{ NULL, NULL, 0, NULL },
 };
 
@@ -60,8 +60,8 @@ static PyMethodDef builder_methods[] = {
     { "add_xml", builder_add_xml, METH_O, "add_xml($self, source, /)\n--\n\nAdds the nodes of a document of XML; False where it is not well-formed." },
     { "add_page", builder_add_page, METH_VARARGS,
         "add_page($self, page, is_exact, /)\n--\n\nAdds the nodes of a page of html5-parser; False where it is to be exact and can't be." },
-    { "add_part", builder_add_part, METH_O, "add_part($self, page, /)\n--\n\nAdds what stands under the root of a page of html5-parser." },
-    { "abandon", builder_abandon, METH_NOARGS, "abandon($self, /)\n--\n\nLets all go that is open." },
+    { "add_part", builder_add_part, METH_O, "add_part($self, page, /)\n--\n\nAdds the nodes below the root of a page of html5-parser." },
+    { "abandon", builder_abandon, METH_NOARGS, "abandon($self, /)\n--\n\nFrees all open elements." },
     { NULL, NULL, 0, NULL },
 };
 
@@ -285,7 +285,7 @@ static void capsule_end(PyObject *capsule)
     cell_let_go(PyCapsule_GetPointer(capsule, STATE_NAME));
 }
 
-/* Makes a type, which has a member by which it finds the state. */
+/* Makes a type, whose member _state leads to the state of the module. */
 static bool add_type(PyObject *to, const char *name, PyType_Spec *spec, PyTypeObject **type)
 {
     Cell *cell = *(Cell **)PyModule_GetState(to);
@@ -359,7 +359,7 @@ static void module_end(void *module)
     *found = NULL;
 }
 
-/* The numbers of slots, of which the last is known from 3.12 on: the module may run under a lock of each interpreter's own. */
+/* The numbers of slots. Python has the last one from 3.12 on: it says that the module may run in interpreters with a lock of their own. */
 enum { SLOT_EXEC = 2, SLOT_INTERPRETERS = 3 };
 
 static PyModuleDef_Slot slots_of_old[] = { { SLOT_EXEC, (void *)module_fill }, { 0, NULL } };

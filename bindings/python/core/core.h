@@ -57,7 +57,7 @@ typedef struct {
     PyObject *gc_is_enabled, *gc_disable, *gc_enable;
 } State;
 
-/* Zeroed memory for so many of a size. (PyMem_Calloc is not of the stable ABI of 3.8.) */
+/* Returns zeroed memory for count items of a size, or null if out of memory. (PyMem_Calloc is not in the stable ABI of 3.8.) */
 static void *zeroed(size_t count, size_t size)
 {
     void *found = count <= PY_SSIZE_T_MAX / size ? PyMem_Malloc(count * size) : NULL;

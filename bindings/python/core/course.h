@@ -30,7 +30,7 @@ static bool course_fails(Course *it)
     return PyErr_NoMemory() != NULL;
 }
 
-/* Room for so many numbers more. */
+/* Reserves room for more numbers behind those that wait. */
 static bool course_reserve(Course *it, size_t more)
 {
     Numbers *list = &it->waiting;
@@ -126,7 +126,7 @@ static bool course_step(Course *it, Order *to)
     return it->is_whole;
 }
 
-/* A node and all below it, as they stand; or null where memory is wanting. It lies there until something moves. */
+/* Returns a node and all below it in tree order, or null, with an exception, if out of memory. The order is cached until something moves. */
 static const Order *order_below(Calls *calls, uint32_t node)
 {
     Order *order = &calls->order;

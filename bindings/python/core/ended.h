@@ -1,4 +1,4 @@
-/* A session that has ended, since memory was wanting, is read as any other: calls that take no memory tell what it holds, and their status is HP_OK here. */
+/* A session that has ended, since it was out of memory, is read as any other. Calls that take no memory return its state, and their status is HP_OK here. */
 #ifndef HUCKLEPORT_ENDED_H
 #define HUCKLEPORT_ENDED_H
 

@@ -4,7 +4,7 @@
 
 #include "building.h"
 
-/* Nodes as libxml2 has them in every version 2 (its tree.h), up to what is read here: elements, attributes and texts... */
+/* Nodes as libxml2 has them in every version 2 (its tree.h), up to the last field that is read here: elements, attributes and texts... */
 typedef struct {
     void *next;
     int type;
@@ -87,7 +87,7 @@ static bool add_their_attributes(Builder *it, const Theirs *attribute)
     return done;
 }
 
-/* Adds a node without what is below it; an element stays open. */
+/* Adds a node without its descendants; an element stays open. */
 static bool add_theirs(Builder *it, const Theirs *node)
 {
     if (node->type == THEIR_ELEMENT)

@@ -13,7 +13,7 @@ typedef void OnInstruction(void *, const char *, const char *);
 typedef void OnDoctype(void *, const char *, const char *, const char *, int);
 typedef int OnEncoding(void *, const char *, void *);
 
-/* What pyexpat hands out (its pyexpat.h), up to what is used here. */
+/* The functions that pyexpat hands out (its pyexpat.h), up to the last one that is used here. */
 typedef struct {
     const char *magic;
     int size, version[3];
@@ -42,7 +42,7 @@ typedef struct {
     Parser parser;
     Builder *builder;
     bool is_whole;
-    /* Whether this is within a doctype, of which nothing is kept; there, within a declaration, and the quote of the literal that is open. */
+    /* Whether this is within a doctype, whose content is not kept; there, whether it is within a declaration, and the quote of the open literal. */
     bool is_in_doctype, is_in_declaration;
     char quote;
 } Xml;
@@ -82,7 +82,7 @@ static void on_instruction(void *data, const char *target, const char *text)
     it->is_whole = it->is_whole && (it->is_in_doctype || add_instruction(it->builder, target, text));
 }
 
-/* What stands in a doctype, token by token: it ends with a > that ends no declaration in it, and stands in no literal. */
+/* Reads the content of a doctype, token by token. It ends with a > that ends no declaration in it, and is in no literal. */
 static void on_token(void *data, const char *token, int length)
 {
     Xml *it = data;

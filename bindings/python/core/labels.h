@@ -1,5 +1,5 @@
-/* What is known of a node, by its number: its kind and its name, which never change, where the name is not long; and the names of its attributes
- * until one is set or removed. It is learned as nodes are made and asked for, and what is not known is asked for. */
+/* A cache of facts about nodes, by their numbers: the kind and the name, which never change, if the name is not long; and the names of the attributes
+ * until one is set or removed. Entries are added as nodes are made and asked for. The library is asked for all that is not cached. */
 #ifndef HUCKLEPORT_LABELS_H
 #define HUCKLEPORT_LABELS_H
 
@@ -19,7 +19,7 @@ typedef struct {
     uint16_t before, label, count;
 } Shape;
 
-/* The first shape stands for what is not known, the second has no name. */
+/* The first shape means that the names are unknown, the second has no name. */
 enum { UNKNOWN = 0, BARE = 1 };
 
 /* The places of a number's label and shape, or 0. */
@@ -33,8 +33,8 @@ typedef struct {
     unsigned label;
 } Met;
 
-/* The labels, with an index by what they say, and some by where a name lay; the shapes, with an index; and what is known of each number. Numbers lie
- * in pages. */
+/* The labels, with an index by their content, and some by the address of a name; the shapes, with an index; and an entry for each number. The entries
+ * are stored in pages. */
 typedef struct {
     Label *at;
     size_t length, room;
@@ -68,7 +68,7 @@ static void labels_drop(Labels *it)
     memset(it, 0, sizeof(*it));
 }
 
-/* What is known of a number, or null. */
+/* Returns the entry of a number, or null. */
 static Known *known_of(const Labels *it, uint32_t number)
 {
     size_t page = number >> PAGE_BITS;
@@ -148,7 +148,7 @@ static unsigned label_of_kind(Labels *it, uint8_t kind)
     return found;
 }
 
-/* Whether a label is of a kind with a name. What lies where the name lay may be another by now. */
+/* Checks whether a label is of a kind with a name. It compares the bytes, since the address of a name may hold another one by now. */
 static bool is_label(const Label *it, uint8_t kind, const void *name, size_t length)
 {
     return it->is_named && it->kind == kind && it->length == length && memcmp(it->name, name, length) == 0;
@@ -216,7 +216,7 @@ static unsigned shape_with(Labels *it, unsigned before, const void *name, size_t
     return *slot;
 }
 
-/* ---- numbers and what is known of them */
+/* ---- numbers and their entries */
 
 /* Whether the pages have far more numbers than there are nodes: then all of them go. */
 static bool is_sparse(const Labels *it, hp_session *session)
@@ -225,7 +225,7 @@ static bool is_sparse(const Labels *it, hp_session *session)
     return it->pages_made >= 64 && hp_in_use(session, &counts) == HP_OK && it->pages_made * (PAGE / 8) > counts.nodes;
 }
 
-/* The page of a number, or null where memory is wanting. */
+/* Returns a page of entries, which is made if it is missing, or null if out of memory. */
 static Known *known_page(Labels *it, hp_session *session, size_t page)
 {
     if (page < it->pages_length && it->pages[page])
@@ -246,7 +246,7 @@ static Known *known_page(Labels *it, hp_session *session, size_t page)
     return it->pages[page];
 }
 
-/* Where what is known of a number is put, or null where memory is wanting. */
+/* Returns the entry of a number, which is made if it is missing, or null if out of memory. */
 static Known *known_made(Labels *it, hp_session *session, uint32_t number)
 {
     Known *page = known_page(it, session, number >> PAGE_BITS);

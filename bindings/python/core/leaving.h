@@ -1,7 +1,7 @@
-/* A session of the library, the objects of it that live, and what is let go once its object is gone.
+/* A session of the library, its living objects, and the things that are freed after their object has ended.
  *
- * The end of an object only notes its number, since it may come at any time. A later call lets go of what was noted: it releases ranges,
- * iterators, walkers and observers, and discards each tree of which no node has an object. */
+ * The end of an object only notes its number, since it may happen at any time. A later call frees the noted things: it releases ranges,
+ * iterators, walkers and observers, and discards each tree in which no node has an object. */
 #ifndef HUCKLEPORT_LEAVING_H
 #define HUCKLEPORT_LEAVING_H
 
@@ -27,7 +27,7 @@ typedef struct {
     size_t length, room;
 } Leaving;
 
-/* A node that is told with its kind. */
+/* A node with its kind. */
 typedef struct {
     uint32_t number;
     uint8_t kind;
@@ -67,9 +67,9 @@ typedef struct {
     Labels labels;
     /* The tree that was gone through last. It is kept as long as nothing moves in the session. */
     Order order;
-    /* Counts what may have let nodes go: what is known of them is asked for anew then. */
+    /* Counts the calls that may have freed nodes: cached names are stale after each. */
     uint32_t epoch;
-    /* What was noted, by families, and whether there is any; and the roots of trees that were held or in use when they were tried. */
+    /* The noted numbers, by families; the roots of trees that were held or in use when they were tried; and whether any number is noted. */
     Leaving noted[FAMILIES], held;
     bool is_due;
     /* How many steps it takes to try those roots again, and how many numbers were noted since they were tried. */
@@ -78,7 +78,7 @@ typedef struct {
     size_t making;
     /* What iterators have found. */
     Waiting *waiting;
-    /* Observers whose turn was to come when memory was wanting; records that were taken of observers; and notices that are left for later. */
+    /* Observers that were still to be notified when memory ran out; records that were taken from observers; and notices that are left for later. */
     Numbers untold;
     struct Taken *taken;
     struct Left *left;
@@ -138,7 +138,7 @@ static void reshaped(Calls *it, uint32_t element)
 
 /* ---- numbers */
 
-/* Where memory is wanting a number is not taken down, and what it names stays until the session ends. */
+/* Appends a number. If out of memory it is dropped, and the thing that it names stays until the session ends. */
 static void leaving_push(Leaving *it, uint32_t number)
 {
     if (it->length == it->room) {
@@ -217,7 +217,7 @@ static bool waiting_sort(Waiting *it)
     return true;
 }
 
-/* Whether an iterator still has to hand a node out; also where memory is wanting to tell. */
+/* Checks whether an iterator still has to hand a node out. Returns true, too, if out of memory. */
 static bool is_waited_for(Calls *it, uint32_t number)
 {
     for (Waiting *its = it->waiting; its; its = its->next) {
@@ -333,7 +333,7 @@ static void discard_all_noted(Calls *it)
     leaving_clear(noted);
 }
 
-/* Lets go of what was noted, at the start of a call. No code of Python runs meanwhile. */
+/* Frees the noted things, at the start of a call. No code of Python runs meanwhile. */
 static void let_go_noted(Calls *it)
 {
     if (!it->is_due || it->making)
@@ -344,7 +344,7 @@ static void let_go_noted(Calls *it)
     discard_all_noted(it);
 }
 
-/* Lets go of all that nobody holds: what is let go may be what another tree waited for. */
+/* Frees all that nobody holds. It tries again, since a freed thing may have been the last use of a tree. */
 static void let_all_go(Calls *it)
 {
     size_t before;

@@ -37,7 +37,7 @@ static bool place_named(PyObject *named, const char *const *names, PyObject **gi
     return left == 0;
 }
 
-/* The words of a member in the order of their names; what is left out is null. */
+/* Puts the words of a member in the order of their names; an omitted word is null. */
 static bool sort(PyObject *words, PyObject *named, const char *const *names, int required, PyObject **given, const char *call)
 {
     Py_ssize_t count = PyTuple_Size(words), most = 0;
@@ -280,7 +280,7 @@ static bool is_pending_answered(uint8_t status, PyObject *self)
     return status == HP_OK;
 }
 
-/* Adds the observers of which records were taken that nobody has yet, unless they are there. */
+/* Adds the observers whose taken records nobody has yet, unless they are there. */
 static void push_taken(Numbers *to, const Taken *taken)
 {
     for (; taken; taken = taken->next) {
@@ -300,7 +300,7 @@ static size_t count_taken(const Taken *it)
     return count;
 }
 
-/* Takes the observers that wait to be told, behind those that an earlier call could not tell, once there is room for all of them. */
+/* Takes the observers that wait to be notified, behind those that an earlier call could not notify, once there is room for all of them. */
 static bool is_pending_taken(Numbers *to, PyObject *self)
 {
     hp_session *session = session_at(self);
@@ -322,8 +322,8 @@ static bool is_pending_taken(Numbers *to, PyObject *self)
     return true;
 }
 
-/* Tells the observers of a session in turn. A list takes what is told, another has what was left by an earlier call. Returns a list of what was
- * raised. */
+/* Notifies the observers of a session in turn. The first list takes the delivered notices, the second has the notices that an earlier call left.
+ * Returns a list of the exceptions that were raised. */
 static PyObject *calls_tell(PyObject *self, PyObject *words)
 {
     Calls *calls = (Calls *)self;
@@ -368,7 +368,7 @@ static PyObject *kind_name(PyObject *self, uint8_t kind)
     return found;
 }
 
-/* The first part of a name never changes, and is asked for once for as long as nothing is let go. */
+/* Returns the cached first part of a name, or null. It never changes, so the cache is valid as long as no node may have been freed. */
 static PyObject *known_name(PyObject *self)
 {
     Thing *it = (Thing *)self;
@@ -492,7 +492,7 @@ static PyObject *node_text_content(PyObject *self, PyObject *nothing)
     return status ? refused_of(status, "text_content", self, NULL, 0) : text_answer(session_of(self));
 }
 
-/* Whether a number is that of a Text: its data is lent, and the node behind it is told. */
+/* Checks whether a number is that of a Text. If so, it returns the borrowed data, and the node behind it. */
 static bool is_text(hp_session *session, uint32_t node, hp_text_view *to, uint32_t *next)
 {
     hp_node_links links;

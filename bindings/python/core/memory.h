@@ -14,17 +14,17 @@ void *__wrap_malloc(size_t size);
 void *__wrap_realloc(void *at, size_t size);
 void __wrap_free(void *at);
 
-/* A block is so many grains, of which a word ahead of what is handed out tells how many: none for one that malloc has made. */
+/* A block consists of grains. A word ahead of the memory that is handed out holds their number: 0 for a block that malloc has made. */
 enum { GRAIN = 16, WORD = 8, MOST_GRAINS = 33, SLAB = 1 << 18 };
-/* So many slabs stay for later when no block is in use: 16 MB. */
+/* The number of slabs that are kept for later when no block is in use: 16 MB. */
 enum { MOST_SPARE = 64 };
 
 typedef struct Block {
     struct Block *next;
 } Block;
 
-/* Freed blocks by their sizes; the slabs, each of which begins with the next, and those that are spare; where the last goes on and ends; and how
- * many blocks are in use. */
+/* Freed blocks by their sizes; the slabs, and the spare ones; where the free part of the last slab begins and ends; and how many blocks are in use.
+ * Each slab begins with a link to the next. */
 static struct {
     Block *free[MOST_GRAINS];
     Block *slabs, *spare;
@@ -65,7 +65,7 @@ static bool slab_made(void)
     return true;
 }
 
-/* A new block at the end of the last slab. What is left of a slab that has no room for it stays unused until all slabs go. */
+/* Makes a block at the end of the last slab. The rest of a slab that has no room for it stays unused until no block is in use. */
 static void *block_made(size_t grains)
 {
     if ((size_t)(memory.end - memory.at) < (grains + 1) * GRAIN && !slab_made())

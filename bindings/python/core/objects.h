@@ -78,7 +78,7 @@ static PyObject *raised(uint8_t status, const char *call, PyObject *calls, PyObj
     return NULL;
 }
 
-/* The same, unless memory was wanting for what can be told without it. */
+/* Raises the error of a refused call. If it was out of memory, but its answer can be read without memory, returns that answer. */
 static PyObject *refused(uint8_t status, const char *call, PyObject *calls, PyObject *words)
 {
     PyObject *held = status == HP_OUT_OF_MEMORY ? held_answer((Calls *)calls, call, words) : NULL;
@@ -127,7 +127,7 @@ static bool is_busy(Calls *it)
     return true;
 }
 
-/* Checks the same of the call that closes the session, and forgets what was taken. */
+/* Checks whether the call that closes the session can't be made, and raises why. Frees the records and notices for later, unless a long call runs. */
 static bool is_busy_closing(Calls *it)
 {
     if (it->busy != IN_LONG_CALL)

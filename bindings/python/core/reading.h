@@ -5,7 +5,7 @@
 #include "course.h"
 #include "members.h"
 
-/* ---- nodes with their kinds, of which objects are made once all are found */
+/* ---- nodes with their kinds, whose objects are made once all are found */
 
 typedef struct {
     Spot *at;
@@ -57,7 +57,7 @@ typedef struct {
     Waiting waiting;
 } Walk;
 
-/* An iterator over what was found; the spots go with it. */
+/* Makes an iterator over the found nodes, which owns the spots from now on. */
 static PyObject *walk_over(Spots *found, bool is_whole, PyObject *session, Calls *calls)
 {
     Walk *it = is_whole ? (Walk *)PyType_GenericAlloc(calls->state->walk_type, 0) : NULL;
@@ -177,7 +177,7 @@ static bool is_node_there(PyObject *self, const char *call)
     return status == HP_OK;
 }
 
-/* What makes a list or an iterator of what was found. */
+/* A function that makes a list or an iterator of the found nodes. */
 typedef PyObject *Make(Spots *found, bool is_whole, PyObject *session, Calls *calls);
 
 static PyObject *children_of(PyObject *self, KindBits bits, Make *make)

@@ -212,7 +212,7 @@ static bool entries_put(Table *it, uint32_t number, uint32_t family, PyObject *o
     return true;
 }
 
-/* Puts an object in, or returns the one that stands there already, with a reference of its own. Null where memory is wanting. */
+/* Inserts an object, or finds the one that is stored already. Returns it with a new reference, or null, with an exception, if out of memory. */
 static PyObject *table_put(Table *it, uint32_t number, uint32_t family, PyObject *object)
 {
     PyObject *found = table_find(it, number, family);

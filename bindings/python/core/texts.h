@@ -1,4 +1,4 @@
-/* What goes in and what comes out: Python's values as the library takes them, and what it lends as Python's. */
+/* Conversions: of Python's values to the arguments of the library, and of the library's borrowed data to Python's objects. */
 #ifndef HUCKLEPORT_TEXTS_H
 #define HUCKLEPORT_TEXTS_H
 
@@ -28,7 +28,7 @@ static void drop(Slice *it)
     PyMem_Free(it->owned);
 }
 
-/* Room for so many bytes. */
+/* Makes room in a slice for a number of bytes. Returns null, with an exception, if out of memory. */
 static void *take_room(Slice *to, size_t size)
 {
     begin(to);
@@ -229,7 +229,7 @@ static PyObject *name_from(const uint8_t *octets, size_t length)
     return PyUnicode_DecodeUTF8((const char *)octets, (Py_ssize_t)length, "strict");
 }
 
-/* Octets that are characters, all of which have only some bits. Of ASCII, Python makes a str quickest as of UTF-8. */
+/* Makes a str of octets that are a character each; bits are all the bits that they have. Python decodes ASCII fastest as UTF-8. */
 static PyObject *octets_from(const char *octets, size_t length, unsigned bits)
 {
     return bits < 0x80 ? PyUnicode_DecodeUTF8(octets, (Py_ssize_t)length, NULL) : PyUnicode_DecodeLatin1(octets, (Py_ssize_t)length, NULL);
@@ -295,7 +295,7 @@ static PyObject *wide_from(const uint16_t *units, size_t length)
 #endif
 }
 
-/* Units of which some are not below 256. */
+/* Makes a str of units, if some are not below 256. */
 static PyObject *broad_from(const uint16_t *units, size_t length)
 {
     if (!is_well_formed(units, length))

@@ -1,11 +1,11 @@
-/* A tree as markup. What is written how is told by the package; here are elements, attributes and Texts put one after the other. */
+/* A tree as markup. The package says how things are written; the functions here put elements, attributes and Texts one after the other. */
 #ifndef HUCKLEPORT_WRITING_H
 #define HUCKLEPORT_WRITING_H
 
 #include "course.h"
 #include "members.h"
 
-/* What is written in place of each unit below 256, or null for itself; and whether a unit is one byte that is written as it is. */
+/* The replacement of each unit below 256, or null if it has none; and whether a unit is one byte that is written as it is. */
 typedef struct {
     const char *at[256];
     size_t length[256];
@@ -48,7 +48,7 @@ typedef struct {
     size_t place;
 } Other;
 
-/* What is known of a name of elements. */
+/* The marks of a name of elements. */
 enum { IS_MARKED = 1, IS_VOID = 2, IS_PLAIN = 4 };
 
 /* How a tree is written, and where it has got to. */
@@ -83,7 +83,7 @@ static bool widen(Buffer *to, size_t length)
     return true;
 }
 
-/* Room for so many bytes more. */
+/* Reserves room for length bytes more. */
 static inline bool reserve(Buffer *to, size_t length)
 {
     return to->room - to->length >= length || widen(to, length);
@@ -148,7 +148,7 @@ static size_t push_unit(Writing *it, const hp_text_view *text, size_t at, const 
     return has_two ? 2 : 1;
 }
 
-/* Units as UTF-8, with what is written in their place. */
+/* Writes units as UTF-8, or their replacements. */
 static bool push_text(Writing *it, const hp_text_view *text, const Escapes *escapes)
 {
     static const bool none_is_plain[128];
@@ -214,7 +214,7 @@ static bool add_to_names(Writing *it, const uint8_t *name, size_t length)
 
 /* ---- attributes */
 
-/* Puts the name of an attribute among all names, unless it was the last of its sort that was written; it comes behind what is written. */
+/* Puts the name of an attribute among all names, unless it was the last of its sort that was written. The name is written next, behind a blank. */
 static bool note_name(Writing *it, const hp_bytes *name)
 {
     const size_t length = name->length;
@@ -262,7 +262,7 @@ static bool push_attributes(Writing *it, uint32_t element)
 
 /* ---- elements */
 
-/* What is known of a name of elements, which is put among all names when it comes first. */
+/* Finds the marks of a name of elements. A name is put among all names when it is met first. */
 static bool marks_of(Writing *it, unsigned label, const hp_bytes *name, uint8_t *to)
 {
     bool is_kept = label && it->calls->labels.at[label].is_named;
@@ -316,7 +316,7 @@ static bool close_to(Writing *it, size_t depth)
     return true;
 }
 
-/* Writes an element up to its children; one without children whole. Of one without an end tag it tells that what stands below is hidden. */
+/* Writes an element up to its children, or whole if it has none. If it has no end tag, is_hidden is set: its descendants are not written. */
 static bool push_element(Writing *it, uint32_t node, bool is_empty, bool *is_hidden)
 {
     hp_bytes name;
@@ -333,7 +333,7 @@ static bool push_element(Writing *it, uint32_t node, bool is_empty, bool *is_hid
     return push(&it->written, ">", 1) && (!open.has_end || opens_push(&it->open, &open));
 }
 
-/* ---- what is no element */
+/* ---- nodes that are no elements */
 
 /* A part of the name of a node, or its data, or null where there is none; or null with an exception. */
 static PyObject *other_name(Writing *it, uint32_t node, uint8_t part)
@@ -376,7 +376,7 @@ static bool push_text_of(Writing *it, uint32_t node, bool is_plain)
 
 /* ---- all of it */
 
-/* Writes a node up to what is below it. */
+/* Writes a node up to its children. */
 static bool push_node(Writing *it, const Ranked *node, bool is_empty, bool is_plain_above, bool *is_hidden)
 {
     const Open nothing = { { 0, 0 }, false, false };

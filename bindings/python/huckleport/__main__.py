@@ -49,7 +49,7 @@ def words(line: str) -> List[object]:
 
 
 def as_line(text: str) -> bytes:
-    """What was typed as a line of JSON."""
+    """Returns the typed text as a line of JSON."""
     text = text.strip()
     if not text.startswith("["):
         text = json.dumps(words(text))

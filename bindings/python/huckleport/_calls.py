@@ -1,4 +1,4 @@
-"""The extension module, by which all calls of the library are made, and its members in the classes of the package."""
+"""The extension module, which makes all calls of the library, and its members in the classes of the package."""
 
 from __future__ import annotations
 

@@ -27,7 +27,7 @@ def _page(source: Union[str, bytes], context: Optional[str] = None) -> Any:
 
 
 def parse(document: Document, source: Union[str, bytes], is_exact: bool) -> bool:
-    """Parses a page into a document. Where it is to be exact and the tree does not tell what stands ahead of the doctype, it returns False."""
+    """Parses a page into a document. Returns False if it is to be exact, but the tree does not show which nodes are ahead of the doctype."""
     is_first = DOCTYPE_FIRST.match(source) if isinstance(source, str) else BYTES_FIRST.match(source)
     builder = Builder(document._calls, document.number, document.number, True)
     return builder.add_page(_page(source), is_exact and not is_first)

@@ -53,7 +53,7 @@ class Built(base.Node):  # type: ignore[misc]
         self.namespace = namespace
         self.parent: Optional[Built] = None
         self._flags: Any = []
-        # What was put in last at the end.
+        # The node that was inserted last at the end of the children.
         self.tail: Optional[Node] = None
 
     @property
@@ -89,7 +89,7 @@ class Built(base.Node):  # type: ignore[misc]
         self.tail = text if behind is None else self.tail
 
     def last(self) -> Optional[Node]:
-        """The last child, which is what was put in last where that still stands at the end."""
+        """Returns the last child: the node that was inserted last, if it is still at the end."""
         if self.tail is None or self.tail.parent_node is not self.node or self.tail.next_sibling is not None:
             self.tail = self.node.last_child
         return self.tail
@@ -143,7 +143,7 @@ def parse(document: Document, source: Union[str, bytes]) -> None:
 
 
 def parse_fragment(document: Document, source: Union[str, bytes], container: str) -> DocumentFragment:
-    """Parses a part of a page. The parser stands it under an element of its own, which is let go."""
+    """Parses a part of a page. The parser puts it under an element of its own, which is discarded."""
     ground = document.create_document_fragment()
     built = HTMLParser(tree=lambda has_namespaces: Builder(ground, has_namespaces)).parseFragment(source, container)
     ground.discard()

@@ -22,7 +22,7 @@ Given = Union[Node, str, Any]
 
 
 class Aside(str):
-    """What is neither an element nor a Text, among the contents of a node."""
+    """A node that is neither an element nor a Text, among the contents of another."""
 
 
 def said(node: Node) -> Given:
@@ -165,7 +165,7 @@ class Match(css_match.CSSMatch):  # type: ignore[misc]
 
 
 def is_html(node: Node) -> bool:
-    """Whether names are told without regard to case: if the document's element is ``html`` without a namespace, or there is none."""
+    """Returns whether names are compared without regard to case: if the document's element is ``html`` without a namespace, or there is none."""
     root = node.node_document.document_element
     return root is None or (root.tag_name.lower() == "html" and not root.has_attribute("xmlns"))
 

@@ -63,7 +63,7 @@ WORDS = {
     HP_ENDED: "ended",
 }
 
-# What is said of a status where its word does not say it.
+# The meaning of each status whose word does not say it.
 MEANINGS = {
     HP_OK: "The call succeeded.",
     HP_NO_SUCH_OBJECT: "There is no object of that number.",

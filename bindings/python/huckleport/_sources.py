@@ -1,4 +1,4 @@
-"""What is parsed comes of a text, of bytes, of a file by its path or its object, or in pieces; and what is written goes to a file."""
+"""Sources of parsing (a text, bytes, a file by its path or its object, or pieces), and files to write to."""
 
 from __future__ import annotations
 
@@ -57,7 +57,7 @@ class Pieces(Generic[D]):
 
 
 def indent(top: Node, depth: int, as_they_are: Callable[[Element], bool]) -> None:
-    """Puts line breaks and blanks between the nodes below an element, apart from what is below one that has a Text or is to stay."""
+    """Puts line breaks and blanks between the nodes below an element. The content of an element that has a Text or is to stay is left as it is."""
     waiting = [(top, depth)]
     while waiting:
         node, depth = waiting.pop()

@@ -33,7 +33,7 @@ class Move(NamedTuple):
 
 
 class Splice(NamedTuple):
-    """A part of a node's data is replaced: so many UTF-16 units from an offset on."""
+    """A part of a node's data is replaced: ``length`` UTF-16 units from an offset on."""
 
     node: CharacterData
     offset: int
@@ -72,7 +72,7 @@ class Setting(NamedTuple):
         return Setting(self.node, self.name, old)
 
     def _put_last(self, names: List[str]) -> None:
-        """Puts attributes behind the new one: an element appends what is set anew."""
+        """Moves attributes behind the new one. They are removed and set again, since an element appends a new attribute."""
         for name in names:
             value = self.node.get_attribute(name) or ""
             self.node.remove_attribute(name)
@@ -194,9 +194,9 @@ def with_values(records: List[MutationRecord]) -> List[Change]:
 
 
 class Orders:
-    """In which order elements have their attributes: no record tells where one stood that was taken out.
+    """The order of the attributes of elements: no record has the index of a removed attribute.
 
-    Elements are told by their numbers, so that none is held. Of those with fewer than two attributes nothing is kept.
+    The keys are the numbers of elements, so that none is held. Elements with fewer than two attributes are not stored.
     """
 
     def __init__(self) -> None:
@@ -204,7 +204,7 @@ class Orders:
         self.learned = 0
 
     def learn(self, node: Node) -> None:
-        """Learns the orders of a node and what stands below it."""
+        """Stores the orders of a node and of all below it."""
         try:
             node._calls.read_orders(node.number, self.known)
         except NoSuchObject:
@@ -219,7 +219,7 @@ class Orders:
 
     @property
     def is_stale(self) -> bool:
-        """Whether most of what is known may be of elements that are gone."""
+        """Whether most of the stored orders may be those of elements that are gone."""
         return len(self.known) > 2 * self.learned + 1000
 
     def read(self, element: Element) -> None:

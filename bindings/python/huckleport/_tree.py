@@ -1,4 +1,4 @@
-"""What is read of a tree beside the standard's members: texts as lxml tells them, names with their namespaces, and elements by their class."""
+"""Queries of a tree beside the standard's members: namespaces by their prefixes, and elements by their names or classes."""
 
 from __future__ import annotations
 

@@ -14,14 +14,18 @@ Table = Tuple[Optional[bytes], ...]
 
 
 def table(escapes: Dict[str, str]) -> Table:
-    """What is written in place of each character below 256."""
+    """Returns the replacement of each character below 256, or None if it has none."""
     found = {character: text.encode() for character, text in escapes.items()}
     return tuple(found.get(chr(it)) for it in range(256))
 
 
 class Style(NamedTuple):
-    """How elements and Texts are written: what stands in place of characters in Texts and in attributes, the names of elements that have no
-    end tag, and of those whose Texts are written as they are, and whether an element without children ends in its start tag."""
+    """How elements and Texts are written.
+
+    ``text`` and ``value`` have the replacements of characters in Texts and in attributes. ``void`` has the names of elements without an end tag,
+    ``plain`` those of elements whose Texts are written as they are. ``has_empty_tags`` says whether an element without children ends in its
+    start tag.
+    """
 
     text: Table
     value: Table

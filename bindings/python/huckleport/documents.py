@@ -1,4 +1,4 @@
-"""Documents, which make what stands in them."""
+"""Documents, which make nodes, ranges, iterators and walkers."""
 
 from __future__ import annotations
 

@@ -9,9 +9,9 @@ from . import _signatures as made
 
 
 class Error(Exception):
-    """What the package raises. ``name`` is how replies print it, ``call`` what was refused, ``reason`` why, where that is known.
+    """An error of the package. ``name`` is how replies print it, ``call`` the refused call, and ``reason`` the reason, if it is known.
 
-    After a refusal by the library nothing has changed; ``status`` is its number. What the package refuses by itself has none.
+    After a refusal by the library nothing has changed; ``status`` is its number. A refusal by the package itself has no status.
     """
 
     def __init__(self, status: Optional[int] = None, call: str = "", reason: Optional[str] = None) -> None:
@@ -58,7 +58,7 @@ class LimitReached(Error):
 
 
 class InUse(Error):
-    """What was to be discarded is still referred to."""
+    """Something still refers to a node that was to be discarded."""
 
 
 class OutOfMemory(Error, MemoryError):

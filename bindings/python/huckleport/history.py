@@ -61,11 +61,11 @@ def put_back(places: Places) -> None:
 
 
 class History:
-    """Undoes and redoes what changes below a node.
+    """Undoes and redoes changes below a node.
 
-    It watches the node by an observer of its own. Ranges that it keeps go back with the changes, each where it stood before them, unless it
-    was set elsewhere since. Nodes that are taken out must not be discarded while it may have to put them back. It keeps at most so many
-    groups as ``limit`` says, and forgets the oldest then.
+    It watches the node by an observer of its own. With the changes it puts back the ranges that it keeps: each to its place before the changes,
+    unless it was set elsewhere since. Removed nodes must not be discarded while it may have to insert them again. It keeps at most ``limit``
+    groups, and then forgets the oldest.
     """
 
     def __init__(self, root: Node, ranges: Iterable[Range] = (), limit: Optional[int] = None) -> None:
@@ -133,7 +133,7 @@ class History:
         return self._step(self._done, self._undone)
 
     def redo(self) -> bool:
-        """Does again what was undone last. Returns whether there was anything; nothing is once something else has changed."""
+        """Redoes the group that was undone last. Returns whether there was one; there is none once something else has changed."""
         return self._step(self._undone, self._done)
 
     @property
@@ -166,14 +166,14 @@ class History:
     # how it is done
 
     def _watch(self, node: Node) -> None:
-        """Watches a node and what is below it. In one that was discarded nothing changes any more."""
+        """Watches a node and all below it, unless it was discarded: then nothing changes in it any more."""
         try:
             self._observer.observe(node, child_list=True, character_data_old_value=True, attribute_old_value=True, subtree=True)
         except NoSuchObject:
             pass
 
     def _see(self, records: List[MutationRecord]) -> None:
-        """Takes records that ``notify`` tells, which ends the watching of what was taken out: so that is watched by itself until its group ends."""
+        """Takes the records that ``notify`` delivers. That ends the watching of removed nodes, so each is watched by itself until its group ends."""
         self._records.extend(records)
         for it in self._outside(node for record in records for node in record.removed_nodes):
             self._watch(it)
@@ -194,7 +194,7 @@ class History:
         """Takes what changed."""
         records = self._observer.take_records()
         if self._records:
-            # (a callback that was interrupted is told again)
+            # (a callback that was interrupted is called again with the same records)
             told = set(map(id, self._records))
             records = self._records + [it for it in records if id(it) not in told]
             self._records = []
@@ -223,7 +223,7 @@ class History:
         yield from moves
 
     def _places_now(self) -> Places:
-        """The places of all ranges that are kept; where none was moved this is what was found before."""
+        """Returns the places of all ranges that are kept; if none was moved, the same object as before."""
         found = ends_now(self._ranges)
         if found == self._ends:
             return self._places

@@ -50,7 +50,7 @@ class SlowParser(UserWarning):
 
 
 def _parser() -> str:
-    """Which parser is used. It is told if that is the slow one."""
+    """Returns which parser is used. Warns if it is the slow one."""
     is_known = "PARSER" in globals()
     found: str = globals()["PARSER"] if is_known else _found()
     if not found:
@@ -67,7 +67,7 @@ PLAIN = frozenset("style script xmp iframe noembed noframes plaintext".split())
 
 
 def _fill(document: Document, source: Union[str, bytes]) -> None:
-    """Parses a page into a document. What stands ahead of a doctype only html5lib tells."""
+    """Parses a page into a document. Only html5lib shows which nodes are ahead of a doctype."""
     if _parser() == "html5-parser":
         from ._html5_parser import parse as parse_page
 
@@ -89,7 +89,7 @@ def parse(source: Source, session: Optional[Session] = None) -> Document:
     try:
         _fill(document, given)
     except BaseException:
-        # (of what is refused nothing stays in the session)
+        # (nothing of a refused page stays in the session)
         if session is not None:
             document.discard()
         raise
@@ -121,14 +121,14 @@ STYLE = Style(
 
 
 def _other(kind: int, name: Optional[str], data: Optional[str], public_id: Optional[str], system_id: Optional[str]) -> str:
-    """What is written for a node that is no element and no Text."""
+    """Returns the markup of a node that is no element and no Text."""
     if kind == COMMENT:
         return f"<!--{data}-->"
     return f"<?{name} {data}>" if kind == INSTRUCTION else f"<!DOCTYPE {name}>"
 
 
 def serialize(node: Node, inner: bool = False) -> str:
-    """A node and all below it as HTML, or what is below it alone. A Document and a fragment are what is below them."""
+    """Returns a node and all below it as HTML, or its children alone. A Document and a fragment are written as their children."""
     if inner:
         has_end = not isinstance(node, Element) or node.tag_name not in VOID
         return "".join([serialize(it) for it in node.child_nodes]) if has_end else ""

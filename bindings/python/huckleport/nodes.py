@@ -183,7 +183,7 @@ class Node(SessionObject):
     # changes
 
     def append_child(self, node: N) -> N:
-        """Puts a node behind its last child, and returns it. A fragment's children come in its place."""
+        """Inserts a node behind its last child, and returns the node. If it is a fragment, its children are inserted instead."""
         raise InCore
 
     def insert_before(self, node: N, child: Optional[Node]) -> N:
@@ -216,7 +216,7 @@ class Node(SessionObject):
         raise InCore
 
     def discard(self) -> None:
-        """Lets this node and all below it go. Refused (``InUse``) while something refers to one of them."""
+        """Frees this node and all below it. Refused (``InUse``) while something refers to one of them."""
         raise InCore
 
     def _together(self, nodes: Tuple[Union[Node, str], ...]) -> Node:
@@ -287,7 +287,7 @@ class ParentNode(Node):
         """Puts nodes, or strings as new Texts, or nothing, in place of all children."""
         given = tuple(it for it in nodes if it is not None)
         children = self._children()
-        # (its object is held until the call is made, which begins with letting go)
+        # (its object is held until the call is made, since that call first frees the nodes that nobody holds)
         together = self._together(given) if given else None
         self._calls.replace_children(self.number, self._of_maybe(together, Node))
         self._calls.note(children)
@@ -305,7 +305,7 @@ class ParentNode(Node):
         return _tree.elements_of_classes(self, names.split())
 
     def select(self, selectors: str, namespaces: Optional[Dict[str, str]] = None, limit: int = 0) -> List[Element]:
-        """The elements below it that match selectors of CSS, in tree order; at most so many if there is a limit. By soupsieve."""
+        """Returns the elements below it that match selectors of CSS, in tree order; at most ``limit`` of them, unless it is 0. By soupsieve."""
         from . import _select
 
         return _select.select(self, selectors, namespaces, limit)
@@ -315,9 +315,9 @@ class ParentNode(Node):
         return next(iter(self.select(selectors, namespaces, 1)), None)
 
     def xpath(self, path: str, namespaces: Optional[Dict[str, str]] = None) -> Any:
-        """What a path of XPath 1.0 gives: a list of nodes and texts, or a text, a number or a truth. By elementpath.
+        """Returns the result of a path of XPath 1.0: a list of nodes and texts, or a text, a number or a truth. By elementpath.
 
-        What stands beside the document's element is not found.
+        Nodes beside the document's element are not found.
         """
         from . import _xpath
 
@@ -386,7 +386,7 @@ class ChildNode(Node):
 
 
 class DocumentFragment(ParentNode):
-    """A node that holds others on their way: where it is put in, its children come in its place."""
+    """A node that holds others on their way: if it is inserted, its children are inserted in its place."""
 
     __slots__ = ()
 
@@ -431,7 +431,7 @@ class Element(ParentNode, ChildNode):
 
     @property
     def prefix(self) -> Optional[str]:
-        """What stands ahead of the colon in its name, or None."""
+        """The part of its name ahead of the colon, or None."""
         return self.tag_name.rpartition(":")[0] or None
 
     @property
@@ -462,7 +462,7 @@ class Element(ParentNode, ChildNode):
 
     @property
     def inner_html(self) -> str:
-        """What is below it as HTML. Setting it parses a part of a page, which comes in place of all children."""
+        """Its children as HTML. Setting it parses a part of a page, which replaces all children."""
         from . import html
 
         return html.serialize(self, inner=True)
@@ -475,7 +475,7 @@ class Element(ParentNode, ChildNode):
 
     @property
     def outer_html(self) -> str:
-        """It and all below it as HTML. Setting it parses a part of a page, which comes in its place; nothing happens if it has no parent."""
+        """The element and all below it as HTML. Setting it parses a part of a page, which replaces the element; without a parent nothing happens."""
         from . import html
 
         return html.serialize(self)
@@ -534,7 +534,7 @@ class CharacterData(ChildNode):
         raise InCore
 
     def substring_data(self, offset: int, count: int) -> str:
-        """So many units from an offset on; fewer where the data ends."""
+        """Returns ``count`` units from an offset on, or fewer if the data ends before."""
         raise InCore
 
     def append_data(self, data: str) -> None:
@@ -546,11 +546,11 @@ class CharacterData(ChildNode):
         raise InCore
 
     def delete_data(self, offset: int, count: int) -> None:
-        """Takes out so many units from an offset on."""
+        """Removes ``count`` units from an offset on."""
         raise InCore
 
     def replace_data(self, offset: int, count: int, data: str) -> None:
-        """Puts a text in place of so many units from an offset on."""
+        """Replaces ``count`` units from an offset on by a text."""
         raise InCore
 
 

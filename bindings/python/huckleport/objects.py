@@ -45,7 +45,7 @@ class SessionObject(Thing):
 
 
 def _or_fault(it: SessionObject) -> str:
-    """What is said of an object; a repr never raises."""
+    """Returns the words about an object for its repr, or the name of an error, since a repr never raises."""
     try:
         return it._said()
     except Error as fault:
@@ -53,5 +53,5 @@ def _or_fault(it: SessionObject) -> str:
 
 
 def maybe(number: int) -> Optional[int]:
-    """A number, or None for what stands for null."""
+    """Returns a number, or None for ``HP_NONE``."""
     return None if number == HP_NONE else number

@@ -1,4 +1,4 @@
-"""Mutation observers and what they are told."""
+"""Mutation observers and their records."""
 
 from __future__ import annotations
 
@@ -70,17 +70,17 @@ class MutationObserver(SessionObject):
         self.session._observers[self.number] = self
 
     def disconnect(self) -> None:
-        """Ends all watching, and lets the records go that were not told."""
+        """Ends all watching, and drops the records that were not delivered."""
         self._calls.disconnect(self.number)
         if self._is_own:
             self.session._observers.pop(self.number, None)
 
     def take_records(self) -> List[MutationRecord]:
-        """The records that were not told, which are taken."""
+        """Takes the records that were not delivered, and returns them."""
         return self._calls.read_records(self, self.session._left)
 
     def release(self) -> None:
-        """Lets the observer go: it watches nothing more, and lets the records go that were not told."""
+        """Releases the observer: it watches nothing more, and drops the records that were not delivered."""
         self._calls.release_observer(self.number)
         self.session._observers.pop(self.number, None)
         self.session._left[:] = [it for it in self.session._left if it is not None and it[0] is not self]

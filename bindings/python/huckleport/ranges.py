@@ -157,17 +157,17 @@ class Range(AbstractRange):
         return found
 
     def delete_contents(self) -> None:
-        """Deletes what is in it."""
+        """Deletes its contents."""
         contents = self._contents()
         self._calls.delete_contents(self.number)
         self._calls.note(contents)
 
     def extract_contents(self) -> DocumentFragment:
-        """Takes what is in it into a new fragment."""
+        """Moves its contents into a new fragment, and returns the fragment."""
         return self.session._make(DocumentFragment, self._calls.extract_contents(self.number))
 
     def clone_contents(self) -> DocumentFragment:
-        """Copies what is in it into a new fragment."""
+        """Copies its contents into a new fragment, and returns the fragment."""
         return self.session._make(DocumentFragment, self._calls.clone_contents(self.number))
 
     def insert_node(self, node: Node) -> None:
@@ -175,13 +175,13 @@ class Range(AbstractRange):
         self._calls.insert_node(self.number, self._of(node, Node))
 
     def surround_contents(self, new_parent: Node) -> None:
-        """Takes what is in it into a node, and puts that in its place."""
+        """Moves its contents into a node, and inserts the node in their place."""
         parent, children = self._of(new_parent, Node), new_parent._children()
         self._calls.surround_contents(self.number, parent)
         self._calls.note(children)
 
     def release(self) -> None:
-        """Lets the range go, so that edits have it no more to move."""
+        """Releases the range, so that edits no longer move it."""
         raise InCore
 
     def __str__(self) -> str:
@@ -203,5 +203,5 @@ class StaticRange(AbstractRange):
         return self._ends().is_valid != 0
 
     def release(self) -> None:
-        """Lets the range go, so that it keeps no tree."""
+        """Releases the range, so that it keeps no tree."""
         self._calls.release_static_range(self.number)

@@ -8,7 +8,7 @@ from typing import Any, Callable, Dict, List, Optional, Sequence
 
 from . import _signatures as made
 
-# The standard's numbers of kinds, and the kinds of which a Document has no two.
+# The standard's numbers of kinds, and the kinds that a Document has at most once.
 DOCUMENT, DOCTYPE = 9, 10
 ONLY_ONCE = (1, DOCTYPE)
 # Parameters that are nodes, by their names; and what a parameter of another kind is called by.

@@ -1,4 +1,4 @@
-"""Sessions: a world of documents, and all that is told by numbers in it."""
+"""Sessions: a world of documents, and all its objects by their numbers."""
 
 from __future__ import annotations
 
@@ -69,11 +69,11 @@ class Session:
         self._end = weakref.finalize(self, _close, self._calls)
         # Observers that observe stay, since their callbacks are still to be called; and those that lines have made.
         self._observers: Dict[int, MutationObserver] = {}
-        # What was told to observers without a callback when a callback of another raised: it is still to be handed out.
+        # Notices that are still to be handed out: another callback raised, and their observer has none, or one that was cut short.
         self._left: List[Optional[Notice]] = []
 
     def close(self) -> None:
-        """Frees all that the session has. Every use of it, or of what is in it, raises ``SessionClosed`` from then on."""
+        """Frees all that the session has. Every use of it, or of an object in it, raises ``SessionClosed`` from then on."""
         self._end()
 
     @property
@@ -100,7 +100,7 @@ class Session:
         return self._calls.keep(self, kind, number)
 
     def _make(self, kind: Type[K], number: int) -> K:
-        """The object of what was just made, which goes with it."""
+        """Returns the object of a number that was just made, which is freed with the object."""
         return self._calls.make(self, kind, number)
 
     def _node(self, number: int) -> Node:
@@ -193,19 +193,19 @@ class Session:
     # observers
 
     def notify(self) -> List[Notice]:
-        """Tells each observer its records in its turn, by its callback, and returns what was told.
+        """Notifies each observer of its records in its turn, by its callback, and returns the notices.
 
-        One that an earlier callback disconnected or released, or whose records it took, is told nothing. What a callback changes is told by the
-        next ``notify()``, or in its turn to an observer that is still to come.
+        An observer that an earlier callback disconnected or released, or whose records it took, is not notified. Changes that a callback makes
+        are delivered by the next ``notify()``, or in its turn to an observer that is still to come.
 
         If callbacks raise, the others are still called. Then the exception is raised, or several as an ``ExceptionGroup`` (before Python 3.11
-        the first one, with the others as its notes). What was told to observers without a callback, or to one that was cut short (by an interrupt or for want of memory), is then
-        kept for the next ``notify()`` to return, or the observer's next ``take_records()``.
+        the first one, with the others as its notes). Some notices are kept then for the next ``notify()``, or the observer's next
+        ``take_records()``: those to observers without a callback, and to one that was cut short by an interrupt or out of memory.
         """
         told: List[Any] = []
         left: List[Any] = self._left
         faults = self._calls.tell(self, told, left)
-        # (this takes no memory, for want of which the notices would be lost)
+        # (this takes no memory: an error here would lose the notices)
         while None in left:
             left.remove(None)
         while None in told:
@@ -215,7 +215,7 @@ class Session:
         return told
 
     def pending(self) -> List[MutationObserver]:
-        """The observers that wait to be told."""
+        """Returns the observers that wait to be notified."""
         return [self._observer(it) for it in self._calls.read_pending()]
 
     # what many nodes have
@@ -239,7 +239,7 @@ class Session:
     # how much there is
 
     def in_use(self) -> Counts:
-        """How many objects of each kind the session has. What nobody holds is let go first."""
+        """Returns how many objects of each kind the session has. Those that nobody holds are freed first."""
         self._calls.let_all_go()
         found = self._calls.in_use()
         return Counts(*(getattr(found, it) for it in Counts._fields))
@@ -255,7 +255,7 @@ class Session:
             raise refusal(status, "line")
         return reply
 
-    # what is read of an answer
+    # reading answers
 
     def _printed_name(self, node: int) -> str:
         """The name of a node as its line prints it."""

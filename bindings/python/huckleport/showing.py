@@ -9,7 +9,7 @@ from .errors import Error
 from .nodes import CharacterData, Comment, DocumentType, Element, Node, ProcessingInstruction, Row, Text
 from .ranges import Range
 
-# What is shown of a tree and of a text in a repr.
+# How many rows of a tree and units of a text a repr shows.
 MOST_ROWS = 40
 MOST_UNITS = 60
 
@@ -107,7 +107,7 @@ def lines(rows: List[Row], marks: Marks, paint: Paint = plain) -> List[str]:
 
 
 def drawn(node: Node, ranges: Iterable[Range] = (), paint: Paint = plain, most: int = MOST_ROWS) -> List[str]:
-    """A node and what stands below it, at most so many nodes."""
+    """Returns a node and all below it as lines, at most ``most`` nodes."""
     rows = node.session._rows(node, most + 1)
     if len(rows) <= most:
         return lines(rows, marks_of(ranges), paint)

@@ -24,7 +24,7 @@ def utf16_offset(text: str, index: int) -> int:
 
 
 def utf16_index(text: str, offset: int) -> int:
-    """The index in a str of what stands at an offset in units. Within a character of two units there is none: ValueError."""
+    """Returns the index in a str of the character at an offset in units. Within a character of two units there is none: ValueError."""
     at = 0
     for index, it in enumerate(text):
         if at >= offset:

@@ -15,7 +15,7 @@ Filter = Sequence[Tuple[str, int]]
 
 
 class NodeFilter:
-    """The standard's numbers of verdicts, and its bits of what is shown."""
+    """The standard's numbers of verdicts, and its bits for the kinds that are shown."""
 
     FILTER_ACCEPT = 1
     FILTER_REJECT = 2
@@ -89,7 +89,7 @@ class NodeIterator(SessionObject):
         return f"of {place.root}, {'before' if place.is_before else 'after'} {place.reference}"
 
     def release(self) -> None:
-        """Lets the iterator go, so that removals have it no more to move, and that it keeps no tree."""
+        """Releases the iterator, so that removals no longer move it, and it keeps no tree."""
         raise InCore
 
 
@@ -155,5 +155,5 @@ class TreeWalker(SessionObject):
         return f"of {place.root}, at {place.current}"
 
     def release(self) -> None:
-        """Lets the walker go, so that it keeps no tree."""
+        """Releases the walker, so that it keeps no tree."""
         self._calls.release_walker(self.number)

@@ -21,7 +21,7 @@ from .session import Session
 
 __all__ = ["LeftOut", "Parser", "parse", "serialize", "tostring", "write"]
 
-# What no XML can hold, and what is no name in it.
+# Patterns: a character that no XML can hold, and a name in XML.
 NO_CHARACTER = "[^\t\n\r\u0020-\ud7ff\ue000-\ufffd\U00010000-\U0010ffff]"
 NAME_START = ":A-Z_a-z\xc0-\xd6\xd8-\xf6\xf8-\u02ff\u0370-\u037d\u037f-\u1fff\u200c-\u200d\u2070-\u218f\u2c00-\u2fef\u3001-\ud7ff\uf900-\ufdcf\ufdf0-\ufffd\U00010000-\U000effff"
 NAME = f"[{NAME_START}][{NAME_START}.0-9\xb7\u0300-\u036f\u203f-\u2040-]*"
@@ -34,7 +34,7 @@ def _pattern(text: str) -> Pattern[str]:
 
 
 def _malformed(message: str, code: int, line: int, offset: int) -> Malformed:
-    """What is raised of a document that is not well-formed: an error of the package and of expat."""
+    """Returns the error for a document that is not well-formed, which is one of the package and of expat."""
     # (in 3.12 an interpreter with a lock of its own has no expat, and all else of the package)
     from xml.parsers.expat import ExpatError
 
@@ -65,7 +65,7 @@ class LeftOut(UserWarning):
 
 
 def _tell_left_out(source: Union[str, bytes]) -> None:
-    """Warns of what a document with a doctype has and its tree has not. Expat tells it, of which the quicker way is not asked."""
+    """Warns of parts of a document with a doctype that its tree has not. They are found by parsing again, since the fast path does not look for them."""
     from xml.parsers import expat
 
     has_internal: List[int] = []
@@ -81,10 +81,10 @@ def _tell_left_out(source: Union[str, bytes]) -> None:
 
 
 def parse(source: Source, session: Optional[Session] = None) -> Document:
-    """The Document of XML, in a session or in a new one: of a text, of bytes, of a path (a ``Path``, not a ``str``) or of a file.
+    """Returns the Document of XML, in a session or in a new one: of a text, of bytes, of a path (a ``Path``, not a ``str``) or of a file.
 
-    What is not well-formed raises ``Malformed``, which is an ``xml.parsers.expat.ExpatError``. Entities of the document itself are put in. What
-    else a doctype declares, and entities that are declared outside, are left out, which is warned of (``LeftOut``).
+    A document that is not well-formed raises ``Malformed``, which is an ``xml.parsers.expat.ExpatError``. Entities of the document itself are
+    expanded. Other declarations of a doctype, and entities that are declared outside, are left out with a warning (``LeftOut``).
     """
     given = read(source)
     document = Session().document if session is None else session.create_document()
@@ -93,7 +93,7 @@ def parse(source: Source, session: Optional[Session] = None) -> Document:
         if not builder.add_xml(given):
             _refuse(given)
     except BaseException:
-        # (of what is refused nothing stays in the session)
+        # (nothing of a refused document stays in the session)
         builder.abandon()
         if session is not None:
             document.discard()
@@ -132,7 +132,7 @@ def _doctype(name: str, public_id: str, system_id: str) -> str:
 
 
 def _other(kind: int, name: Optional[str], data: Optional[str], public_id: Optional[str], system_id: Optional[str]) -> str:
-    """What is written for a node that is no element and no Text."""
+    """Returns the markup of a node that is no element and no Text."""
     name, data = name or "", data or ""
     if kind == COMMENT:
         if "--" in data or data.endswith("-"):

@@ -37,7 +37,7 @@ class Editor:
         return self.picked.choice(found) if found else None
 
     def edit(self):
-        """Makes an edit; what is refused has changed nothing."""
+        """Makes an edit. A refused one has changed nothing."""
         try:
             getattr(self, self.picked.choice(EDITS))()
         except h.DOMException:
@@ -93,13 +93,13 @@ class Editor:
         found.release()
 
     def replace(self):
-        """A node comes in place of another, which may stand beside it, be it, or hold it."""
+        """Puts a node in place of another, which may be its sibling, itself, or its ancestor."""
         child, node = self.pick(h.Node), self.picked.choice((self.pick(h.Node), self.document.create_element("r")))
         if child is not self.root and not node.contains(child.parent_node):
             child.parent_node.replace_child(node, child)
 
     def replace_all(self):
-        """One node of those below another comes in place of all of them."""
+        """Replaces all children of a node by one node, which may be one of its descendants."""
         parent, node = self.pick(h.Element), self.pick(h.Node)
         if parent is not self.root and not node.contains(parent):
             parent.replace_children(node, "t")
@@ -110,7 +110,7 @@ class Editor:
             found.text_content = "t"
 
     def extract(self):
-        """What is in a range goes to the end."""
+        """Moves the contents of a range to the end."""
         self.root.append_child(self.picked.choice(self.ranges).extract_contents())
 
     def insert(self):

@@ -1,4 +1,4 @@
-"""What stands in lines and replies, as the objects of the package have it."""
+"""Conversions between values in lines and replies and the objects of the package."""
 import huckleport as h
 
 MOVES = {

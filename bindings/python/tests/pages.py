@@ -76,6 +76,6 @@ BROKEN = [
 
 
 def large(count=10000):
-    """A page with so many elements."""
+    """Returns a page with about ``count`` elements."""
     rows = "".join(f"<div class='c{at % 7}' id='n{at}'><p>Text {at} &amp; <b>more</b> text</p><br></div>" for at in range(count // 4))
     return f"<!DOCTYPE html><html><head><title>t</title></head><body>{rows}</body></html>"

@@ -133,7 +133,7 @@ class Answers(unittest.TestCase):
             raise faults[0]
 
     def test_threads(self):
-        """What some threads add and discard, others are told: each of it once."""
+        """Two threads add and discard nodes while a third takes the records: each change is recorded once."""
         told, counts, is_over = [], [], []
         observer = self.session.create_mutation_observer(lambda records, it: told.extend(records))
         observer.observe(self.root, child_list=True)
@@ -192,7 +192,7 @@ class Answers(unittest.TestCase):
 
     @unittest.skipUnless(hasattr(signal, "setitimer"), "there are no timers")
     def test_interrupts_by_the_clock(self):
-        """Interrupts come at any time, and an observer with a callback is told of each change all the same."""
+        """Interrupts happen at any time, and an observer with a callback still gets each change."""
         told, made, interrupts = set(), 0, 0
         observer = self.session.create_mutation_observer(lambda records, it: told.update(record.old_value for record in records))
         self.root.set_attribute("a", "0")
@@ -220,7 +220,7 @@ class Answers(unittest.TestCase):
         self.assertEqual(told, {str(it) for it in range(made)})
 
     def test_released_and_discarded_amid(self):
-        """What lets go of nodes and closes sessions amid an answer finds all whole."""
+        """An answer is whole even if nodes are freed and the session is closed while it is made."""
         class Closing:
             def __init__(self, session):
                 self.session, self.itself = session, self

@@ -1,4 +1,4 @@
-"""Documents in and out: what is parsed is what each parser's own tree has, and what is written gives the same tree again."""
+"""Documents in and out: a parsed tree has the nodes of each parser's own tree, and a written one gives the same tree again."""
 import os
 import subprocess
 import sys
@@ -17,7 +17,7 @@ HTML5LIB = unittest.skipUnless(is_there("html5lib"), "there is no html5lib")
 LXML = unittest.skipUnless(is_there("lxml"), "there is no lxml")
 
 
-# Pages of which html5lib and lxml make what no XML can hold: comments with two strokes, an instruction of the name xml.
+# Pages whose trees by html5lib and lxml no XML can hold: comments with two strokes, an instruction of the name xml.
 NO_XML_OF_HTML5LIB, NO_XML_OF_LXML = ["comments"], ["comments", "pi"]
 
 

@@ -1,4 +1,4 @@
-"""A session that has ended, since memory was wanting, is read and serialized; what changes it is refused, and other sessions live."""
+"""A session that has ended, since it was out of memory, is read and serialized. Changes of it are refused, and other sessions go on."""
 import importlib.util
 import os
 import subprocess

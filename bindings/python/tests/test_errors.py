@@ -294,9 +294,9 @@ class LongCalls(unittest.TestCase):
             it.close()
 
 
-@unittest.skipUnless(importlib.util.find_spec("_testcapi"), "there is no _testcapi, by which Python's memory is made wanting")
+@unittest.skipUnless(importlib.util.find_spec("_testcapi"), "there is no _testcapi, which makes Python run out of memory")
 class Memory(unittest.TestCase):
-    """Python's own memory is wanting, at each place in turn, while observers are told or records are taken: nobody's records are lost."""
+    """Python runs out of memory, at each place in turn, while observers are notified or records are taken: no records are lost."""
 
     SOURCE = """
 import _testcapi, sys
@@ -306,7 +306,8 @@ from huckleport.observers import MutationRecord
 DUE = [("attributes", ""), ("attributes", "b"), ("childList", "")]
 
 def seen(start, stop, is_taking):
-    # What three observers were told while allocations fail from one on, up to another or for good; whether one did; and whether all goes on after it.
+    # Notifies three observers while allocations fail from one on, up to another or for good. Returns the records of each, whether a call was out of
+    # memory, and whether all goes on after it.
     session = h.Session()
     root = session.document.append_child(session.document.create_element("root"))
     told = [[], [], []]
@@ -357,7 +358,7 @@ print(failed > 100, lost)
         self.assertEqual(ran.stdout, "True []\n")
 
     def test_disconnected(self):
-        """What was taken for nobody is forgotten as what waits is: by an observer that is disconnected or released, and with the session."""
+        """Taken records that nobody got are dropped as waiting ones are: if their observer is disconnected or released, and with the session."""
         source = """
 import _testcapi
 import huckleport as h

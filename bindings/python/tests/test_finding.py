@@ -1,4 +1,4 @@
-"""What is found and read beside the standard's members, against lxml, soupsieve over BeautifulSoup, and expat; and what goes to files."""
+"""Finding and reading beside the standard's members, against lxml, soupsieve over BeautifulSoup, and expat; and writing to files."""
 import importlib.util
 import io
 import os
@@ -329,7 +329,7 @@ class Files(unittest.TestCase):
 
 class Parsers(unittest.TestCase):
     def found(self, name):
-        """The parser that is used where one is found, and what is told of it."""
+        """Returns the parser that is used if one of a name is found, and the warnings about it."""
         known = {key: it for key, it in vars(h.html).items() if key != "PARSER"}
         with mock.patch.dict(vars(h.html), {**known, "_found": lambda: name}, clear=True), warnings.catch_warnings(record=True) as told:
             warnings.simplefilter("always")
@@ -341,7 +341,7 @@ class Parsers(unittest.TestCase):
 
 
 class LeftOut(unittest.TestCase):
-    """What a doctype declares is told where it is not kept."""
+    """Declarations of a doctype that are not kept are warned of."""
 
     def told(self, source):
         with warnings.catch_warnings(record=True) as found:

@@ -113,7 +113,7 @@ class Histories(unittest.TestCase):
 
     @unittest.skipUnless(os.path.exists("/proc/self/statm"), "nothing tells here how much memory is taken")
     def test_memory(self):
-        """Nodes that go out and come back, and what is discarded, take no more memory with time, where few groups are kept."""
+        """Nodes that are removed and inserted again, and discarded nodes, take no more memory with time, if few groups are kept."""
         history, parts = h.History(self.document, limit=20), [self.document.create_element(it) for it in "abcd"]
         self.root.append(*parts)
         taken = []

@@ -1,4 +1,4 @@
-"""What goes with its object, and what stays though no object of it lives."""
+"""Which things are freed with their object, and which stay though no object of them lives."""
 import gc
 import os
 import random
@@ -48,7 +48,7 @@ class LettingGo(unittest.TestCase):
         found.select_node_contents(node)
         return found
 
-    # what is no node
+    # things that are no nodes
 
     def test_each_kind(self):
         """Ranges, iterators, walkers and observers go with their objects, and only with these."""
@@ -72,7 +72,7 @@ class LettingGo(unittest.TestCase):
         self.assertEqual(self.session.node(number).tag_name, "p")
 
     def test_numbers_of_lines(self):
-        """Once a line was answered no node goes by itself: lines may name it. What is no node goes with its object all the same."""
+        """Once a line was answered, no node is freed by itself: lines may name it. Other things are still freed with their object."""
         self.session.line(b"")
         number = self.element().number
         self.document.create_range()
@@ -81,7 +81,7 @@ class LettingGo(unittest.TestCase):
         self.assertLevel()
 
     def test_found_by_number(self):
-        """What was made here is the same by its number, and goes with its last holder."""
+        """A range that was made here is the same object by its number, and is freed with its last holder."""
         first = self.document.create_range()
         second = self.session.range(first.number)
         self.assertIs(first, second)
@@ -107,7 +107,7 @@ class LettingGo(unittest.TestCase):
         self.assertLevel(nodes=1)
 
     def test_observers_with_records_left(self):
-        """Nor does one go that was told by a call that raised, before that is handed out."""
+        """An observer is not freed either while a notice to it, from a call that raised, is still to be handed out."""
 
         def raises(records, it):
             raise KeyError
@@ -297,7 +297,7 @@ class LettingGo(unittest.TestCase):
         self.assertLevel()
 
     def test_random_calls(self):
-        """Whatever is moved and dropped, there is what stands in a tree with a held node, and nothing else."""
+        """Whatever is moved and dropped, the session has the nodes of all trees with a held node, and no others."""
         uses = (
             lambda choose: self.element("a", "", self.element("b")),
             lambda choose: choose().append_child(choose()),
@@ -434,7 +434,7 @@ class LettingGo(unittest.TestCase):
 
     @unittest.skipUnless(os.path.exists(RESIDENT), "there is no /proc")
     def test_memory(self):
-        """What is made and dropped leaves memory level: 200,000 of each kind, 100,000 elements, trees of 1,000 nodes."""
+        """Making and dropping things leaves memory level: 200,000 of each kind, 100,000 elements, trees of 1,000 nodes."""
         def tree():
             top = self.element()
             for _ in range(999):

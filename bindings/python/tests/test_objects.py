@@ -164,7 +164,7 @@ class Objects(unittest.TestCase):
         self.assertEqual(told, [stays])
 
     def two_in_turn(self, does):
-        """What two observers are told: the callback of the first does something with the second, once, before that one's turn."""
+        """Returns the calls of two observers. The callback of the first does something with the second, once, before that one's turn."""
         told = []
 
         def callback(records, it):
@@ -198,7 +198,7 @@ class Objects(unittest.TestCase):
         self.assertEqual(self.session.notify(), [])
 
     def test_changed_before_its_turn(self):
-        """What a callback changes is told in its turn to who is still to come, and else by the next call."""
+        """A callback's change is delivered in its turn to an observer that is still to come, and to the others by the next call."""
         told = self.two_in_turn(lambda second: self.element.set_attribute("a", "2"))
         self.session.notify()
         self.assertEqual(told, [("first", 1), ("second", 2)])
@@ -206,7 +206,7 @@ class Objects(unittest.TestCase):
         self.assertEqual(told, [("first", 1), ("second", 2), ("first", 1)])
 
     def test_disconnected_by_one_that_raises(self):
-        """What it did counts, and the others are told."""
+        """The effects of its callback stay, and the others are notified."""
 
         def does(second):
             second.disconnect()
@@ -221,7 +221,7 @@ class Objects(unittest.TestCase):
         self.assertEqual(told, [("first", 2), ("third", 1)])
 
     def test_without_a_callback_before_its_turn(self):
-        """Nor is it told to those without a callback."""
+        """An observer without a callback gets no notice either."""
         without = self.session.create_mutation_observer()
         first = self.session.create_mutation_observer(lambda records, it: without.disconnect())
         for it in (first, without):
@@ -230,7 +230,7 @@ class Objects(unittest.TestCase):
         self.assertEqual([it for it, _ in self.session.notify()], [first])
 
     def test_taken_out_until_its_turn(self):
-        """What is taken out is watched by each observer until its own turn."""
+        """A removed node is watched by each observer until its own turn."""
         told = []
 
         def callback(records, it):
@@ -250,7 +250,7 @@ class Objects(unittest.TestCase):
         self.assertEqual(told, [("first", 1)])
 
     def test_released_in_turn(self):
-        """What comes and goes leaves no memory: a hundred thousand of each kind one after another."""
+        """Released things leave no memory taken: a hundred thousand of each kind one after another."""
         resident = "/proc/self/statm"
         if not os.path.exists(resident):
             self.skipTest("there is no /proc")

@@ -1,4 +1,4 @@
-"""docs/python.md and README.md: their examples print what stands beside them, and each name that the former lists is there."""
+"""docs/python.md and README.md: their examples print the text beside them, and each name that the former lists is there."""
 import contextlib
 import io
 import os

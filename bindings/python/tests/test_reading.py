@@ -51,7 +51,7 @@ class Reading(unittest.TestCase):
         root, seen = self.elements[0], []
         due = [it.number for it in root.descendants()]
         for it in root.descendants():
-            # (what nobody holds is let go by the next call that makes something, and not what the iterator has still to give)
+            # (the next call that makes something frees the nodes that nobody holds, but not those that the iterator has still to return)
             it.remove()
             self.document.create_comment("x")
             seen.append(it.number)
@@ -120,7 +120,7 @@ class Reading(unittest.TestCase):
 
 
 def written(node):
-    """A node and what is below it as HTML, by single calls."""
+    """Returns a node and all below it as HTML, by single calls."""
     if isinstance(node, h.Text):
         return node.data.replace("&", "&amp;").replace("<", "&lt;")
     if isinstance(node, h.Comment):
@@ -130,7 +130,7 @@ def written(node):
 
 
 class Kept(unittest.TestCase):
-    """What is kept of a walk and of attributes is what single calls tell, whatever was edited between."""
+    """Cached orders of trees and names of attributes are those that single calls return, whatever was edited between."""
 
     def check(self, root):
         self.assertEqual(list(root.descendants()), list(below(root)))

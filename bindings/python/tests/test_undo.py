@@ -1,4 +1,4 @@
-"""Undo of every edit: each single one and each pair over small trees, with ranges, against what was there before; and what undo costs."""
+"""Undo of every edit: each single one and each pair over small trees, with ranges, against the state before; and the cost of undo."""
 import gc
 import itertools
 import json
@@ -21,7 +21,7 @@ SHAPES = [[], ["ab"], [[]], ["ab", []], [[], "ab"], [["ab"]], [["ab"], "cd"], ["
 
 
 class Small:
-    """A small tree in a document, what stands outside, and a range at each place."""
+    """A small tree in a document, nodes outside of it, and a range at each place."""
 
     def __init__(self, shape):
         self.session = h.Session()
@@ -54,7 +54,7 @@ class Small:
         return found
 
     def outside(self):
-        """What can come in: an element with a Text in it, and a fragment of two."""
+        """Returns nodes that can be inserted: an element with a Text in it, and a fragment of two."""
         element, fragment = self.document.create_element("n"), self.document.create_document_fragment()
         element.append("n")
         fragment.append("f", self.document.create_element("g"))
@@ -62,7 +62,7 @@ class Small:
 
 
 def of_children(parents, nodes):
-    """The edits of children, as functions of what is outside then: a node is told by itself, and what is outside by its place there."""
+    """Yields the edits of children, as functions of the nodes that are outside then. A node is given as itself, or one of those by its index."""
     for parent in parents:
         yield lambda out, parent=parent: parent.replace_children()
         yield lambda out, parent=parent: setattr(parent, "text_content", "t")
@@ -114,7 +114,7 @@ class Edits(unittest.TestCase):
     """Where all is undone the tree is the one that was there, so that the next edits begin from it."""
 
     def made(self, edit, out):
-        """Whether an edit was made; what is refused has changed nothing."""
+        """Returns whether an edit was made. A refused one has changed nothing."""
         try:
             edit(out)
             return True
@@ -210,7 +210,7 @@ class Random(unittest.TestCase):
             self.has_only_fragments(session, document.create_comment("the last").number)
 
     def has_only_fragments(self, session, top):
-        """Nothing is left but the empty fragments of which surrounding has taken the contents: no answer tells their numbers."""
+        """Checks that only empty fragments are left: surrounding has taken their contents, and no answer has their numbers."""
         for number in range(1, top):
             told = json.loads(session.line(json.dumps(["node", number]).encode()))
             if "ok" in told:
@@ -296,7 +296,7 @@ class Refused(unittest.TestCase):
         self.assertEqual(seen(self.root, [self.bookmark]), before)
 
     def test_what_changed_outside(self):
-        """What was taken out comes back as it was then, whatever was done to it meanwhile."""
+        """A removed node is put back as it was then, whatever was done to it meanwhile."""
         first, second, third = self.root.child_nodes
         second.append("some", self.document.create_element("x"), "text")
         second.set_attribute("a", "1")

@@ -1,4 +1,4 @@
-"""Undo of what changes in nodes that stand outside for a while, whoever is told meanwhile; and the order of attributes."""
+"""Undo of changes in nodes that are outside for a while, whoever is notified meanwhile; and the order of attributes."""
 import itertools
 import os
 import unittest
@@ -109,7 +109,7 @@ class Outside(unittest.TestCase):
         self.assertEqual(self.node.get_attribute_names(), ["b", "c"])
 
     def test_order_of_what_came_in_another(self):
-        """A node comes in below another, and leaves it in the same group."""
+        """A node is inserted below another, and moved out of that in the same group."""
         outer, inner = (self.document.create_element(it) for it in ("outer", "inner"))
         outer.append(self.document.create_element("between"))
         outer.first_child.append(inner)
@@ -163,7 +163,7 @@ class Outside(unittest.TestCase):
         self.assertEqual((self.root.child_nodes, seen(self.node, [])), ([], before))
 
     def test_let_go_once_its_group_has_ended(self):
-        """What is out is referred to until then."""
+        """A removed node is referred to until its group has ended."""
         with self.history.group():
             self.node.remove()
             self.session.notify()
@@ -174,7 +174,7 @@ class Outside(unittest.TestCase):
 
 
 def edits_of(root, children, outside):
-    """Every edit of three children and two attributes, and of what is outside."""
+    """Yields every edit of three children and two attributes, and of the node outside."""
     for node in (*children, outside):
         yield node.remove
         for parent, child in itertools.product((root, *children), (*children, None)):

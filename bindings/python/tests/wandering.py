@@ -10,7 +10,7 @@ class Refused(Exception):
 
 
 class Wanderer(Editor):
-    """Edits what stands below a root, and what was taken out of it; observers are told now and then, and some of their callbacks edit."""
+    """Edits the nodes below a root, and those that were taken out. Observers are notified now and then, and some of their callbacks edit."""
 
     def __init__(self, document, root, ranges, seed):
         super().__init__(document, root, ranges, seed)
@@ -35,7 +35,7 @@ class Wanderer(Editor):
         return self.picked.choice(outside) if outside else super().pick(kind)
 
     def edit(self):
-        """Makes an edit; what is refused has changed nothing."""
+        """Makes an edit. A refused one has changed nothing."""
         name = self.picked.choice(EDITS)
         if name in OF_RANGES and not self.has_group:
             return
@@ -46,14 +46,14 @@ class Wanderer(Editor):
         self.known += [it for it in self.root.descendants() if it not in self.known]
 
     def back(self):
-        """A node that stands outside comes in again, or stands last once more."""
+        """Inserts a node from outside again, or another one anew."""
         outside = self.outside(h.ChildNode)
         node = self.picked.choice(outside) if outside else super().pick(h.ChildNode)
         parent = super().pick(h.Element)
         parent.insert_before(node, self.picked.choice([*parent.child_nodes, None]))
 
     def again(self):
-        """A node comes in, and is put in its place again."""
+        """Inserts a new node, and puts it in its place again."""
         node, parent = self.document.create_element("again"), super().pick(h.Element)
         for name in "abc":
             node.set_attribute(name, "1")
@@ -86,7 +86,7 @@ class Wanderer(Editor):
         self.document.session.notify()
 
     def observe(self):
-        """An observer comes, goes, or edits when it is told."""
+        """Makes an observer that edits when it is notified, or ends one."""
         if len(self.observers) > 3:
             it = self.observers.pop(0)
             self.picked.choice((it.disconnect, it.release))()
@@ -111,7 +111,7 @@ OF_RANGES = ("mark", "cut", "extract", "insert")
 
 
 def history_of(session, document, seed, groups=4):
-    """A history of random groups, some of them nested and some that end with an exception; what was seen after each; and its ranges."""
+    """Makes a history of random groups; some are nested, and some end with an exception. Returns it, its editor, the states after each, and its ranges."""
     root = document.append_child(document.create_element("root"))
     for child in (document.create_element("x"), "some text", document.create_element("y")):
         root.append(child)
@@ -177,7 +177,7 @@ def there_and_back(session, seed):
 
 
 def try_histories(first, count, tell=lambda done: None):
-    """Tries the histories of so many seeds from one on, some of them in one session. Returns the seeds of those that were wrong."""
+    """Tries the histories of ``count`` seeds from one on, some of them in one session. Returns the seeds of those that were wrong, with the errors."""
     wrong = []
     for seed in range(first, first + count):
         if (seed - first) % 200 == 0:
@@ -192,7 +192,7 @@ def try_histories(first, count, tell=lambda done: None):
 
 
 def leave(history, editor):
-    """Lets all of a history go."""
+    """Frees all of a history."""
     history.close()
     for it in editor.observers:
         it.release()

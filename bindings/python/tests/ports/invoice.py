@@ -109,7 +109,7 @@ def add(document: h.Document, out: Out) -> None:
 
 
 def change(document: h.Document, out: Out) -> None:
-    """What is there is changed."""
+    """Attributes, texts and children that are there are changed."""
     first, second = document.get_elements_by_tag_name("invoice")[:2]
     first.remove_attribute("paid")
     second.set_attribute("paid", "yes")
@@ -156,7 +156,7 @@ def write(out: Out) -> None:
 
 
 def faults(out: Out) -> None:
-    """What is not well-formed, and a node in a wrong place, are refused."""
+    """A text that is not well-formed, and a node in a wrong place, are refused."""
     try:
         h.xml.parse("<a><b></a>")
     except ExpatError as fault:

@@ -91,7 +91,7 @@ def add(document, out):
 
 
 def change(document, out):
-    """What is there is changed."""
+    """Attributes, texts and children that are there are changed."""
     first, second = document.getElementsByTagName("invoice")[:2]
     first.removeAttribute("paid")
     second.setAttribute("paid", "yes")
@@ -136,7 +136,7 @@ def write(out):
 
 
 def faults(out):
-    """What is not well-formed, and a node in a wrong place, are refused."""
+    """A text that is not well-formed, and a node in a wrong place, are refused."""
     try:
         minidom.parseString("<a><b></a>")
     except ExpatError as fault:

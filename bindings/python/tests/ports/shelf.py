@@ -63,7 +63,7 @@ def about(book: h.Element) -> str:
 
 
 def read(out: Out) -> h.Document:
-    """A document is parsed, and what is in it is told."""
+    """A document is parsed, and its content is printed."""
     tree = h.xml.parse(io.BytesIO(SOURCE.encode()))
     root = root_of(tree)
     out(root.tag_name, {"room": root.get_attribute("room")}, sum(not isinstance(it, h.Text) for it in root), root.get_attribute("room"))
@@ -140,7 +140,7 @@ def write(root: h.Element, out: Out) -> None:
 
 
 def feed(out: Out) -> None:
-    """A document comes in pieces."""
+    """A document is parsed in pieces."""
     parser = h.xml.Parser()
     for piece in ("<shelf><bo", "ok id='x'/></sh", "elf>"):
         parser.feed(piece)
@@ -148,7 +148,7 @@ def feed(out: Out) -> None:
 
 
 def faults(out: Out) -> None:
-    """What is not well-formed is refused."""
+    """A text that is not well-formed is refused."""
     try:
         h.xml.parse("<shelf><book></shelf>")
     except h.Malformed as fault:

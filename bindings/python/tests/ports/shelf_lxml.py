@@ -37,7 +37,7 @@ def about(book):
 
 
 def read(out):
-    """A document is parsed, and what is in it is told."""
+    """A document is parsed, and its content is printed."""
     tree = etree.parse(io.BytesIO(SOURCE.encode()))
     root = tree.getroot()
     out(root.tag, dict(root.attrib), len(root), root.get("room"))
@@ -110,7 +110,7 @@ def write(root, out):
 
 
 def feed(out):
-    """A document comes in pieces."""
+    """A document is parsed in pieces."""
     parser = etree.XMLParser()
     for piece in ("<shelf><bo", "ok id='x'/></sh", "elf>"):
         parser.feed(piece)
@@ -118,7 +118,7 @@ def feed(out):
 
 
 def faults(out):
-    """What is not well-formed is refused."""
+    """A text that is not well-formed is refused."""
     try:
         etree.fromstring("<shelf><book></shelf>")
     except etree.XMLSyntaxError as fault:
