@@ -1,9 +1,9 @@
 #!/usr/bin/env python3
 """Counts the instructions of commands of the built program, in pairs that should be equal but for a tenth.
 
-A word leaves only the pairs whose name has it. For each pair two scenes are made under callgrind, uncounted, and then the commands are
-counted; what one command (or one node copied or taken) costs is told, less what an empty line takes, and the run fails where the second is more
-than a tenth above the first. So a count is that of the command: its line's text beyond an empty one, the edit and the reply.
+A word leaves only the pairs whose name has it. For each pair two scenes are made under callgrind, uncounted, and then the commands are counted. The cost
+of one command (or of one node copied or taken) is printed, less the cost of an empty line. So a count is that of the command: its line's text beyond
+an empty one, the edit and the reply. The run fails if the second count is more than a tenth above the first.
 """
 import json
 import os
@@ -77,7 +77,7 @@ def takes_words(parser):
 
 
 def is_apart(name, sides, counts):
-    """Tells the counts of a pair, and answers whether the second is more than a tenth above the first."""
+    """Prints the counts of a pair, and returns whether the second is more than a tenth above the first."""
     first, second = counts
     too_many = second > 1.1 * first
     print(f"{name}: {first:.0f} {sides[0]}, {second:.0f} {sides[1]}{': more than a tenth apart' if too_many else ''}", flush=True)
@@ -91,7 +91,7 @@ def main():
         sys.exit(f"there is no pair whose name has {' and '.join(given.words)}: {', '.join(dict.fromkeys(it[0] for it in PAIRS))}")
     with tempfile.TemporaryDirectory() as work:
         empty = empty_line(given.program, work)
-        print(f"an empty line: {empty:.0f}, which the others are told without", flush=True)
+        print(f"an empty line: {empty:.0f}, which is subtracted from the others", flush=True)
         for name, sides, scene, sizes in pairs:
             scenes = [scene(size) for size in sizes]
             counts = [(instructions(given.program, making, lines, work) - len(lines) * empty) / count for making, lines, count in scenes]

@@ -1,6 +1,6 @@
-"""The scenes of `bench/command_cost.py`, in pairs: what a command does not touch is there few times and many times.
+"""The scenes of `bench/command_cost.py`, in pairs: a few objects that a command does not touch, and many of them.
 
-A scene answers the lines that make it, the commands that are counted in it, and how many commands (or nodes, levels, units) there are. The
+A scene returns the lines that make it, the commands that are counted in it, and the number of commands (or nodes, levels, units). The
 tree has groups of a hundred leaves below element 1.
 """
 
@@ -156,7 +156,7 @@ def positions_in_a_chain(depth):
 
 
 def texts_read(units):
-    """Texts of so many units are made; counted for each unit, which is a byte of the line."""
+    """Texts of a number of units are made; counted for each unit, which is a byte of the line."""
     return [["createElement", 0, "e"]], [["createText", 0, "a" * units] for _ in range(20)], 20 * units
 
 
@@ -177,7 +177,7 @@ def changes_beside_observers(observers):
 
 
 def disconnected(observers):
-    """Each of a hundred observers is disconnected, among so many that each observe a node of their own."""
+    """The first hundred observers are disconnected, one by one. Each observer observes a node of its own."""
     making = [["createElement", 0, "o"] for _ in range(observers)]
     for number in range(observers):
         making += [["createObserver"], ["observe", number, 1 + number, {"childList": True}]]
@@ -194,13 +194,13 @@ def notified(observers):
 
 
 def observed_again(observers):
-    """An observer observes its node again, among so many that each observe a node of their own."""
+    """The first hundred observers observe their nodes again, one by one. Each observer observes a node of its own."""
     making, _, _ = disconnected(observers)
     return making, [["observe", number, 1 + number, {"attributes": True}] for number in range(100)], 100
 
 
 def notified_after(removals):
-    """A notice with one transient registration to end, after one notice with so many."""
+    """A notice that ends one transient registration, after a notice that ended one for each removal."""
     making = [["createElement", 0, "p"], ["createElement", 0, "c"], ["createObserver"]]
     making += [["createElement", 0, "o"] for _ in range(removals)]
     making += [["appendChild", 1, 3 + k] for k in range(removals)] + [["observe", 0, 1, {"childList": True, "subtree": True}]]
@@ -249,7 +249,7 @@ def discarded_beside_walks(walks):
 
 
 def documents_discarded(gone):
-    """Documents go, after so many other nodes went."""
+    """Documents are discarded, after a number of other nodes were discarded."""
     making = []
     for number in range(1, gone + 1):
         making += [["createComment", 0, ""], ["discard", number]]
@@ -294,7 +294,7 @@ def moved_beside_released(ranges):
 
 
 def taken_out_of_a_chain(depth):
-    """What lies behind the foot of a chain is extracted, from there to the end of its top; counted for each level."""
+    """The contents from the foot of a chain to the end of its top are extracted; counted for each level."""
     making = list(chain(depth)) + [["createText", 0, "some text"], ["appendChild", depth, depth + 1]]
     making += [["createRange", 0], ["setStart", 0, depth + 1, 4], ["setEnd", 0, 0, 1]]
     return making, [["extractContents", 0]], depth
@@ -325,7 +325,7 @@ def removed_from_behind(children):
 
 
 def inserted_beside_an_end(children):
-    """A node comes in before every second child, front to back."""
+    """A node is inserted before every second child, front to back."""
     making = beside_an_end(children, ["createElement", 0, "e"]) + [["createElement", 0, "n"] for _ in range(children // 2)]
     return making, [["insertBefore", 1, children + 2 + k, 2 + 2 * k] for k in range(children // 2)], children // 2
 
@@ -336,7 +336,7 @@ def split_beside_an_end(children):
 
 
 def normalized_beside_an_end(groups):
-    """Two Texts and an element, so many times, are normalized beside an end in their parent; counted for each three."""
+    """Groups of two Texts and an element are normalized beside an end in their parent; counted for each group."""
     making = [["createElement", 0, "p"]]
     for number in range(2, 3 * groups + 2):
         making += [["createText", 0, "t"] if number % 3 else ["createElement", 0, "e"], ["appendChild", 1, number]]
@@ -384,10 +384,10 @@ PAIRS = (
     ("remove", ("with no iterator elsewhere", "with 10,000"), removes_beside_iterators, (0, 10000)),
     ("a change that nobody watches", ("beside one observer of another node", "beside 10,000"), changes_beside_observers, (1, 10000)),
     ("disconnect", ("among 100 observers", "among 10,000"), disconnected, (100, 10000)),
-    ("a child that comes, goes and is told of", ("with no other observer", "beside 10,000 of other nodes"), notified, (0, 10000)),
+    ("append, remove and notify", ("with no other observer", "beside 10,000 of other nodes"), notified, (0, 10000)),
     ("observe of a node that is observed", ("among 100 observers", "among 10,000"), observed_again, (100, 10000)),
-    ("a child that comes, goes and is told of", ("after 1 removal told of", "after 3,000 told of at once"), notified_after, (1, 3000)),
-    ("a child that comes, goes and is told of", ("after 1 removal told of", "after 10,000 told of at once"), notified_after, (1, 10000)),
+    ("append, remove and notify", ("after a notice of 1 removal", "after a notice of 3,000"), notified_after, (1, 3000)),
+    ("append, remove and notify", ("after a notice of 1 removal", "after a notice of 10,000"), notified_after, (1, 10000)),
     ("discard of a Text", ("with no record that waits", "beside 50,000"), discarded_beside_records, (0, 50000)),
     ("discard of a Text", ("with no other node observed", "with 10,000"), discarded_beside_observed, (0, 10000)),
     ("discard of a Text", ("with no static range", "beside 50,000"), discarded_beside_static_ranges, (0, 50000)),

@@ -1,6 +1,6 @@
-"""Scenes of `bench/hostile.py` in a Document with a doctype or an element among many comments: what its checks ask of the order of its children.
+"""Scenes of `bench/hostile.py` in a Document with a doctype or an element among many comments, for the checks of the order of its children.
 
-A scene answers the lines that make it, and those that are counted. Those that come from `refused` are to be refused.
+A scene returns the lines that make it, and the lines that are counted. Lines of the class `Refused` are to be refused.
 """
 from command_cost import Refused
 
@@ -9,14 +9,14 @@ ELEMENT = ["createElement", 0, "e"]
 
 
 def document(count, first=None, last=None):
-    """Lines that make a Document of as many comments behind what comes first, and ahead of what comes last; the comments' numbers, and the next number."""
+    """Returns lines that make a Document of as many comments, between a first and a last node if given; the comments' numbers; and the next number."""
     made = [*([first] if first else []), *[["createComment", 0, ""]] * count, *([last] if last else [])]
     at = 2 if first else 1
     return [*made, *[["appendChild", 0, it + 1] for it in range(len(made))]], range(at, at + count), len(made) + 1
 
 
 def comes_and_goes(count):
-    """An element comes in before one comment after another, behind the doctype, and leaves again."""
+    """An element is inserted before one comment after another, behind the doctype, and removed again."""
     making, comments, element = document(count, first=DOCTYPE)
     return [*making, ELEMENT], [line for it in comments for line in (["insertBefore", 0, element, it], ["remove", element])]
 
@@ -35,7 +35,7 @@ def replaces_an_element(count):
 
 
 def refused(made, *behind, first=None, last=None):
-    """What is made is refused before one comment after another."""
+    """Returns a scene in which the node that a line makes is refused before one comment after another."""
 
     def scene(count):
         making, comments, node = document(count, first, last)

@@ -1,9 +1,9 @@
 #!/usr/bin/env python3
 """Counts the instructions of scenes that once cost the square of their size, or worse, at three sizes, each twice the one before.
 
-A word leaves only the scenes whose name has it. What makes a scene is not counted, nor what an empty line takes for each line that is. The run fails
-where twice the size takes more than 2.3 times as much: twice, and what a logarithm or the pages of a table add. --size takes larger ones: the sizes
-below are those of the gate, which are small.
+A word leaves only the scenes whose name has it. The lines that make a scene are not counted, and the cost of an empty line is subtracted for each counted
+line. The run fails if twice the size takes more than 2.3 times as much: twice, and a margin for a logarithm or the pages of a table. The sizes below are
+those of the gate, which are small; --size multiplies them.
 """
 import concurrent.futures
 import os
@@ -195,7 +195,7 @@ SCENES = (
     ("insertions beside an end in the parent, before every second child", inserted_beside_an_end, 1000),
     ("splitText beside an end in the parent", split_beside_an_end, 500),
     ("normalize beside an end in the parent", normalized_beside_an_end, 300),
-    ("deleteContents of half of the children, the first of which went", deleted_after_the_first, 1000),
+    ("deleteContents of half of the children, after the first child was removed", deleted_after_the_first, 1000),
     ("normalize of a chain with a Text in each element", normalized_chain, 500),
     ("removal and discard beside live ranges at depth", RANGE, 300),
     ("the same beside iterators", watchers_at_depth(lambda at, node: [["createIterator", node, 1, []]]), 300),
@@ -231,7 +231,7 @@ SCENES = (
 
 def takes_size(parser):
     takes_words(parser)
-    parser.add_argument("--size", type=int, default=1, metavar="N", help="so many times the sizes of the gate (1)")
+    parser.add_argument("--size", type=int, default=1, metavar="N", help="multiplies the sizes of the gate by N (1)")
 
 
 def measured(scene, given, empty):

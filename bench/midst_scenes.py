@@ -1,7 +1,7 @@
 """Scenes of `bench/hostile.py` in the midst of a long list of children, as an editor makes them, and in a Document with many comments.
 
-A scene answers the lines that make it, and those that are counted. Element 1 has the children 2 and on; what comes in later has the numbers
-behind them. Places are drawn, each time the same ones.
+A scene returns the lines that make it, and the lines that are counted. Element 1 has the children 2 and on; nodes that are inserted later have the
+numbers behind them. Places are random, and the same in each run.
 """
 import random
 
@@ -15,7 +15,7 @@ def listed(count, *made):
 
 
 def leaves_under(parent, count):
-    """As many elements, with the numbers behind the parent's, that came in under it one by one."""
+    """Lines that make as many elements, with the numbers behind the parent's, and append them to it one by one."""
     return [*[["createElement", 0, "e"]] * count, *[["appendChild", parent, it] for it in range(parent + 1, parent + count + 1)]]
 
 
@@ -63,7 +63,7 @@ def gone_from_what_came_at_once(count):
 
 
 def board(count):
-    """A child goes from the front of one list to that of the other, both of which came of a fragment, and an index in the midst of both is asked."""
+    """A child moves from the front of one list to that of the other, and an index in the midst of both is asked. Both lists came of a fragment."""
     making = [["createElement", 0, "r"]] * 2 + [["createFragment", 0]]
     columns = [range(4 + at * 2 * count, 4 + (at + 1) * 2 * count) for at in range(2)]
     for parent, column in enumerate(columns, 1):
@@ -74,7 +74,7 @@ def board(count):
 
 
 def one_cursor(count):
-    """Children come in before one in the midst, and the index of each is asked."""
+    """Children are inserted before one in the midst, and the index of each is asked."""
     return listed(count), [line for it in free(count) for line in (["insertBefore", 1, it, 2 + count // 2], ["index", it])]
 
 
@@ -113,7 +113,7 @@ def surrounded_in_the_midst(count):
 
 
 def exchanged_in_the_midst(count):
-    """What stands at one place in the midst goes, and something comes in there."""
+    """The child at one place in the midst is deleted, and another is inserted there."""
     at = count // 2
     lines = [line for it in free(count) for line in (["setStart", 0, 1, at], ["setEnd", 0, 1, at + 1], ["deleteContents", 0], ["insertNode", 0, it])]
     return listed(count) + ranged(0, 0, 0), lines
@@ -127,13 +127,13 @@ def gone_in_turn(count):
 
 
 def come_in_turn(count):
-    """Children come in at the front and in the midst in turn, beside one end."""
+    """Children are inserted at the front and in the midst in turn, beside one end."""
     lines = [["insertBefore", 1, it, 2 if at % 2 else 2 + count // 2] for at, it in enumerate(free(count))]
     return listed(count) + ranged(0, count // 2, count // 2), lines
 
 
 def index_behind_the_front(count):
-    """Each time something has come in at the front, the index of a child in the midst is asked."""
+    """After each insertion at the front, the index of a child in the midst is asked."""
     return listed(count), [line for it in free(count) for line in (["insertBefore", 1, it, 2], ["index", 2 + count // 2])]
 
 
@@ -178,7 +178,7 @@ def compared(drawn, count, _):
 
 
 def in_a_document(*first):
-    """An element goes in and out of a Document that has as many comments behind what comes first."""
+    """Returns a scene in which an element is appended to a Document of many comments, and removed, again and again; the given nodes are before the comments."""
 
     def scene(count):
         making = [*first, *[["appendChild", 0, it + 1] for it in range(len(first))]]
@@ -204,11 +204,11 @@ MIDST_SCENES = (
     ("questions in the midst of a list that came of a fragment, as its first children go", asked_once_the_first_went(of_a_fragment), 512),
     ("the same of a clone", asked_once_the_first_went(of_a_clone), 512),
     ("the same of an import", asked_once_the_first_went(of_an_import), 512),
-    ("the same of what was extracted", asked_once_the_first_went(of_extracted), 512),
-    ("the same of what replaced all", asked_once_the_first_went(of_replaced), 512),
+    ("the same of an extracted fragment", asked_once_the_first_went(of_extracted), 512),
+    ("the same of replaced children", asked_once_the_first_went(of_replaced), 512),
     ("removals beside an end, of a list that came of a fragment", gone_from_what_came_at_once, 1024),
     ("a board: from one list's front to the other's, and an index in both", board, 512),
-    ("index of each child that comes in before one in the midst", one_cursor, 4096),
+    ("index of each child that is inserted before one in the midst", one_cursor, 4096),
     ("index at random places, between moves", at_random(index), 250),
     ("ends set at random places, between moves", at_random(ends), 250),
     ("splitText at random places, between moves", at_random(splits, "createText", 0, "ab"), 250),

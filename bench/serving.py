@@ -30,7 +30,7 @@ LENGTHS = (1_000, 10_000, 100_000, 1_000_000)
 
 
 def sends(conninfo, names, count, chunk, barrier, out):
-    """A client that sends so many lines to each of some documents, in turn, with a chunk of each on the way."""
+    """Sends as many lines as the count to each of some documents, in turn, with a chunk of each on the way."""
     with connect(conninfo, timeout=300) as client:
         documents = [client.document(it) for it in names]
         given = {it: lines(number % 50, count) for number, it in enumerate(documents)}
@@ -88,7 +88,7 @@ def timed(call):
 
 
 def write_log(place, name, count):
-    """A document with so many lines that change it, as a worker would have recorded them."""
+    """Makes a document, with as many lines that change it as the count, as a worker would have recorded them."""
     given = changes(lines("a long log", count * 3 // 2))[:count]
     ran = subprocess.run([PROGRAM], input=b"".join(it + b"\n" for it in given), stdout=subprocess.PIPE, check=True)
     with connect(place.conninfo) as client, connected(place.conninfo) as connection:
@@ -101,7 +101,7 @@ def write_log(place, name, count):
 
 
 def take_over(place, count):
-    """Kills the worker that has a document, and tells how long after the end of its lease the next line is answered."""
+    """Kills the worker that has a document, and prints how long after the end of its lease the next line is answered."""
     name = f"{count} lines"
     write_log(place, name, count)
     first = place.work(1, "--lease", str(LEASE))[0]
@@ -204,7 +204,7 @@ PARTS = {"speed": speeds, "take-over": take_overs, "memory": memories, "statemen
 
 def main():
     parser = argparse.ArgumentParser(description=__doc__, formatter_class=argparse.RawDescriptionHelpFormatter)
-    parser.add_argument("parts", nargs="*", metavar="PART", help=f"what is measured, of {', '.join(PARTS)} (all)")
+    parser.add_argument("parts", nargs="*", metavar="PART", help=f"the parts to measure, of {', '.join(PARTS)} (all)")
     parser.add_argument("--standby", action="store_true", help="for speed, with a synchronous standby on this machine")
     parser.add_argument("--workers", type=int, default=4, metavar="N", help="how many workers (4)")
     parser.add_argument("--speed", action="append", nargs=4, type=int, metavar=("DOCUMENTS", "CLIENTS", "LINES", "CHUNK"), help="another scene")

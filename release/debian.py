@@ -1,4 +1,4 @@
-"""The packages for Debian: the program, the library, what is compiled by, and the package for Python."""
+"""Makes the packages for Debian: the program, the library, its header and static library, and the package for Python."""
 import gzip
 import hashlib
 import os
@@ -17,7 +17,7 @@ HOMEPAGE = "https://huckleport.example/"
 CORE = """ Documents by the DOM Standard: trees, character data, attributes, live
  ranges, iterators, walkers and mutation observers."""
 PYTHON = "usr/lib/python3/dist-packages"
-# Of each package its section, its first line, what its text adds, and the packages that it asks for.
+# The section, first line and added text of each package, and the packages that it asks for.
 PACKAGES = {
     "huckleport": ("text", "documents by the DOM Standard, one JSON command a line", "The program domserve: a JSON command a line in, a JSON reply a line out.", ("python3",)),
     LIBRARY: ("libs", "documents by the DOM Standard, shared library", "The shared library, for programs in C.", ()),
@@ -31,7 +31,7 @@ def squeezed(content):
 
 
 def share_of(package, copyright_text):
-    """What each package has below usr/share/doc."""
+    """Returns the files of each package below usr/share/doc."""
     when = time.strftime("%a, %d %b %Y %H:%M:%S +0000", time.gmtime(files.MOMENT))
     changes = f"huckleport ({VERSION}) unstable; urgency=medium\n\n  * Version {VERSION}; CHANGELOG.md tells what it brought.\n\n -- {MAINTAINER}  {when}\n"
     folder = f"usr/share/doc/{package}"
@@ -105,7 +105,7 @@ def control(package, found, machine):
 
 
 def of_library(names):
-    """What tells Debian's tools of the shared object: the package that has it, the version since which each call is there, and the loader's trigger."""
+    """Returns the files on the shared object for Debian's tools: its package, the version that has each call first, and the loader's trigger."""
     symbols = f"{SHARED} {LIBRARY} #MINVER#\n" + "".join(f" {it}@{make.SYMBOLS} {VERSION}\n" for it in sorted([*names, make.SYMBOLS]))
     triggers = "activate-noawait ldconfig\n"
     return {"shlibs": f"libhuckleport {make.SERIES} {LIBRARY} (>= {VERSION})\n", "symbols": symbols, "triggers": triggers}

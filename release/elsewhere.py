@@ -1,6 +1,6 @@
 #!/usr/bin/env python3
-"""What the test of releases needs of another processor: a folder with Debian's libc, Python and standard library of Rust for aarch64, unpacked, and the list of
-them that dpkg keeps. `python3 release/elsewhere.py`, as root, takes it from Debian; what is installed here stays as it is.
+"""Takes the files of another processor that the test of releases needs: a folder with Debian's libc, Python and standard library of Rust for aarch64, unpacked,
+and dpkg's list of them. `python3 release/elsewhere.py`, as root, takes it from Debian. Packages that are installed here stay as they are.
 """
 import os
 import sys

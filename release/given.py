@@ -1,4 +1,4 @@
-"""What a release is made of: the program and the libraries that were proved and built, the pages of the repository, and its version."""
+"""The inputs of a release: the proved and built program and libraries, the pages of the repository, and its version."""
 import os
 import re
 import shutil
@@ -67,8 +67,10 @@ def is_generated():
 
 
 def take(library, work):
-    """Copies the libraries into a folder, with a header that is made anew, and puts the program there: that beside the libraries, or else one that is built of
-    generated/, as anybody can build it again; if this is of other sources, the proved one. Ends where something is missing or does not fit.
+    """Copies the libraries and the program into a folder, and makes a new header there.
+
+    The program is the one beside the libraries. If there is none, it is built of generated/, as anybody can build it again. If generated/ is of other
+    sources, it is the proved one. Ends the script if something is missing or does not fit.
     """
     beside = os.path.join(library, "domserve")
     program = beside if os.path.isfile(beside) else PROGRAM
@@ -90,7 +92,7 @@ def take(library, work):
 
 
 def run(script, *words):
-    """Runs a script of the bindings; ends with what it said where it fails."""
+    """Runs a script of the bindings; if it fails, ends with its output."""
     make.call(sys.executable, os.path.join(BINDINGS, script), *words)
 
 

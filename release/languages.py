@@ -30,7 +30,7 @@ def licenses(at=""):
 
 
 def metadata(project, about):
-    """What a wheel says of itself: the project's own file, and its page."""
+    """Returns the metadata of a wheel: the project's own file, and its page."""
     head = {"Metadata-Version": "2.4", "Name": project["name"], "Version": VERSION, "Summary": project["description"]}
     head.update({"License-Expression": LICENSE, "Requires-Python": project["requires-python"], "Description-Content-Type": "text/markdown"})
     lines = [*head.items(), *(("License-File", it) for it in LICENSES), *(("Requires-Dist", it) for it in project.get("dependencies", ()))]
@@ -129,7 +129,7 @@ def crate(work, to):
 
 
 def manifest():
-    """The package's own, without what is run in the repository alone."""
+    """Returns the package's own manifest, without the scripts, which are run in the repository alone."""
     found = json.loads(text_of("bindings/javascript/package.json"))
     found.pop("scripts", None)
     return files.text(json.dumps(found, indent=2) + "\n")

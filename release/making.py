@@ -1,9 +1,13 @@
-"""Makes the files of a release of what was proved and built: for each processor an archive, packages for Debian and a wheel; a wheel for serving, a crate and
-a package for npm; an archive of references; an SBOM, what the files were made of, and their sums.
+"""Makes the files of a release of the proved and built program and libraries:
+
+- for each processor an archive, packages for Debian and a wheel;
+- a wheel for serving, a crate and a package for npm;
+- an archive of references;
+- an SBOM, a list of the sources and tools (MADE-OF), and the sums of the files.
 
 Nothing is proved here. The libraries are taken as they are; the program, and all for another processor, is built of generated/. The header is made of the
-exports, and the shared object has to show its calls and no other name. What this machine has no tools for is left out, with a line that says so. The same input
-gives the same bytes on one machine.
+exports, and the shared object has to show its calls and no other name. Files that this machine has no tools for are left out, with a line that says so. The
+same input gives the same bytes on one machine.
 """
 import argparse
 import contextlib
@@ -48,7 +52,7 @@ def text_in(path):
 
 
 def said_by(*words):
-    """What a command writes; nothing if it is not here or fails."""
+    """Returns the output of a command; nothing if it is not here or fails."""
     try:
         return subprocess.run(words, cwd=ROOT, stdout=subprocess.PIPE, stderr=subprocess.DEVNULL, text=True, check=True).stdout.strip()
     except (OSError, subprocess.CalledProcessError):
@@ -56,7 +60,7 @@ def said_by(*words):
 
 
 def kit():
-    """How the kit names itself by which the proofs were made, as generated/ has it, or the kit that is here."""
+    """Returns the version of the kit that made the proofs, from generated/, or of the kit that is here."""
     try:
         noted = [it for it in assemble.text_of(assemble.SUMS).splitlines() if it.startswith("# kit: ")]
     except OSError:
@@ -65,8 +69,8 @@ def kit():
 
 
 def made_of(said=""):
-    """What a release was made of: its version, commit and kit, the compiler that assembled the proved code, the sums that the proofs were noted under, and
-    what the kit said of the proofs.
+    """Returns the text of MADE-OF: the version, commit and kit, the compiler that assembled the proved code, the sums that the proofs were noted under, and
+    the kit's verdicts on the proofs.
     """
     commit = said_by("git", "rev-parse", "HEAD") or "unknown"
     changed = " with changes that are not committed" if said_by("git", "status", "--porcelain") else ""
@@ -78,7 +82,7 @@ def made_of(said=""):
 
 
 def close(folder, key, said):
-    """Writes what belongs to a release as a whole: what it was made of, its SBOM, its sums, and the signature of these."""
+    """Writes the files of a release as a whole: MADE-OF, its SBOM, its sums, and the signature of these."""
     write(folder, MADE_OF, made_of(said))
     moment = time.strftime("%Y-%m-%dT%H:%M:%SZ", time.gmtime(files.MOMENT))
     # (SPDX asks for SHA1 beside any other sum)
@@ -96,7 +100,7 @@ def sign(folder, key):
 
 
 def release(library, to, key=None, said="", without=()):
-    """Makes all files of a release, but for some, in a folder, which is empty before; returns what was left out, and why."""
+    """Makes all files of a release, but for those in `without`, in an empty folder; returns the files that were left out, each with the reason."""
     left = {}
     for machine in MACHINES.values():
         with tempfile.TemporaryDirectory() as work:

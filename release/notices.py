@@ -88,7 +88,7 @@ def sbom(name, version, moment, kit, sums):
         "licenseConcluded": "MIT OR Apache-2.0", "copyrightText": "NOASSERTION"} for at, (path, its) in enumerate(sums.items(), 1)]
     relations = [("SPDXRef-DOCUMENT", "DESCRIBES", "SPDXRef-huckleport")]
     relations += [("SPDXRef-huckleport", "CONTAINS", it["SPDXID"]) for it in packages[1:]]
-    # (a package that is told without its files may contain none)
+    # (a package whose files are not listed may contain none)
     relations += [(it["SPDXID"], "GENERATED_FROM", "SPDXRef-huckleport") for it in files]
     head = {"spdxVersion": SPDX, "dataLicense": "CC0-1.0", "SPDXID": "SPDXRef-DOCUMENT", "name": name}
     of_all = hashlib.sha256(repr(sums).encode()).hexdigest()[:16]
@@ -101,7 +101,7 @@ def sbom(name, version, moment, kit, sums):
 
 
 def faults():
-    """What is wrong with the table: crates of the kit that it lacks, and versions that the kit tells otherwise."""
+    """Returns the faults of the table: crates of the kit that it lacks, and versions that differ from those of the kit."""
     known = {it["kit"] for it in components()} | OWN
     found = [f"components.json has no {it}" for top in set(TOPS.values()) for it in sorted(linked(top) - known)]
     try:

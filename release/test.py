@@ -8,10 +8,10 @@
 - the package for npm, in an empty project;
 - the terms in each file, the SBOM, the sums and their signature, and that two makings give the same bytes;
 - the library's interface beside that of the last release, by abidiff;
-- what is for aarch64, under qemu.
+- the files for aarch64, under qemu.
 
-Nothing is fetched. What this machine has no tool for is left out, and said to be. The libraries are those of bindings/c/out, and the program that of
-crates/domserve/out, unless --library names another folder. It runs some minutes; the gate runs the interface and NOTICE alone.
+Nothing is fetched. Tests that this machine has no tool for are left out, with a line that says so. The libraries are those of bindings/c/out, and the
+program that of crates/domserve/out, unless --library names another folder. It runs some minutes; the gate runs the interface and NOTICE alone.
 """
 import argparse
 import glob
@@ -153,7 +153,7 @@ class Sums(Release):
             self.assertEqual(its, {"SHA1": hashlib.sha1(content).hexdigest(), "SHA256": hashlib.sha256(content).hexdigest()})
         ids = {it["SPDXID"] for it in [*found["packages"], *found["files"], found]}
         self.assertEqual({it[end] for it in found["relationships"] for end in ("spdxElementId", "relatedSpdxElement")} - ids, set())
-        # (a package that is told without its files may contain none)
+        # (a package whose files are not listed may contain none)
         contained = {it["relatedSpdxElement"] for it in found["relationships"] if it["relationshipType"] == "CONTAINS"}
         self.assertEqual(contained & {it["SPDXID"] for it in found["files"]}, set())
         with open(os.path.join(self.made, MADE_OF), encoding="utf-8") as file:

@@ -1,5 +1,5 @@
-/* What the benchmarks share: the clock, chances, and the table of scenes. Each program is run as PROGRAM SCENE COUNT, and writes the
- * seconds and the calls of what is measured; what makes the scene is not counted. With no words it lists its scenes. */
+/* Shared by the benchmarks: the clock, random numbers, and the table of scenes. Each program is run as PROGRAM SCENE COUNT. It writes the
+ * seconds and the number of the measured calls, without those that make the scene. Without arguments it lists its scenes. */
 #ifndef BENCH_H
 #define BENCH_H
 
@@ -9,7 +9,7 @@
 #include <string.h>
 #include <time.h>
 
-/* Of so many elements of a tree one has others below it. */
+/* One in this many elements of a tree has others below it. */
 enum { LEAVES = 8 };
 
 struct scene {

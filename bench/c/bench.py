@@ -1,10 +1,9 @@
 #!/usr/bin/env python3
-"""Nanoseconds a call of scenes through the library for C, and of building, moving and walking by libxml2 where that is there; and the bytes that one
-more object of each kind takes.
+"""Measures the nanoseconds of a call in scenes through the library for C, and the bytes that one more object of each kind takes.
 
-libxml2 checks nothing, keeps no ranges, iterators or observers, and its walk follows pointers in place of a call. Each scene is run a few
-times, each time in a program of its own, and the quickest run is told, for each program. The ratio is ours over libxml2's. With --instructions the
-instructions of a call are counted, by valgrind and once, since they are the same from run to run.
+If libxml2 is installed, building, moving and walking are measured through it too. It checks nothing and keeps no ranges, iterators or observers, and its
+walk follows pointers in place of a call. Each scene runs a few times, each time in its own process, and the quickest run of each program is printed. The
+ratio is ours over libxml2's. With --instructions valgrind counts the instructions of a call, once, since they are the same from run to run.
 """
 import os
 import subprocess

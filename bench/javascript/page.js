@@ -1,9 +1,9 @@
 // Milliseconds of processor time that libraries take over a page and over jsdom: `node bench/javascript/page.js [--times N] [--turns N] [--scene NAME]`,
 // with NODE_PATH at the folder that has the libraries (Debian's: /usr/share/nodejs).
 //
-// Each scene of the page's tests is run a few times by each, in turn, and each time in a process of its own. Told are medians: of what it takes until there
-// is a window, of the first turn of a process, of the next few, and of the last ones, when the engine has compiled what runs. The time is that of the thread
-// that runs the program, which is what a test waits for; with --whole that of the process, with the engine's compiler and collector beside it.
+// Each scene of the page's tests is run a few times by each, in turn, and each time in a process of its own. The table has medians: of the time until there
+// is a window, of the first turn of a process, of the next few, and of the last ones, when the engine has compiled the code. The time is that of the thread
+// that runs the program, for which a test waits; with --whole that of the process, with the engine's compiler and collector beside it.
 import { spawnSync } from "node:child_process";
 import { fileURLToPath } from "node:url";
 import { parseArgs } from "node:util";
@@ -30,7 +30,7 @@ const OPTIONS = {
 
 const RUN = fileURLToPath(new URL("../../bindings/javascript/tests/page/libraries/run.js", import.meta.url));
 const PLAYERS = ["page", "jsdom"];
-/** Which turns of a process are told, by the name of the column. */
+/** The turns of a process that each column shows, by its name. */
 const TOLD = { "first turn": [0, 1], "turns 2 to 5": [1, 5], "last 5 turns": [-5, undefined] };
 
 function median(numbers) {

@@ -1,4 +1,5 @@
-// Scenes of what programs for pages do most: attributes, texts, selectors, lists. Each is made ready by a window and a count, and answers what is measured.
+// Scenes of the most frequent work of programs for pages: attributes, texts, selectors, lists. Each is prepared with a window and a count, and returns the
+// function to measure.
 
 /** A table in a page: rows of cells with classes, ids and data. */
 function tableOf({ document }, count) {
@@ -21,7 +22,7 @@ function tableOf({ document }, count) {
 
 const ROUNDS = 20;
 
-/** A selector asked for so often, over a table that stays, or with an edit ahead of each time. */
+/** Makes a scene that queries a selector ROUNDS times, over a table that stays, or with an edit before each query. */
 const asked = (selector, edit = () => undefined) => (window, count) => {
   const { document, cells } = tableOf(window, count);
   return () => {
@@ -32,7 +33,7 @@ const asked = (selector, edit = () => undefined) => (window, count) => {
   };
 };
 
-/** What is done with each of the cells of a table. */
+/** Makes a scene that calls a function with each cell of a table. */
 const each = (does) => (window, count) => {
   const { document, cells } = tableOf(window, count);
   return () => {

@@ -1,9 +1,9 @@
 // Nanoseconds of processor time a step of scenes, by this package and by jsdom where that is there, with NODE_PATH at the folder that has jsdom
 // (Debian's node-jsdom: /usr/share/nodejs): `node bench/javascript/run.js [--count N] [--times N] [--scene NAME]`.
 //
-// Each scene has a process of its own, in which both run it in turn, each time over things that are made anew, until its time is over. Told is the quickest
-// run of each, in which the engine has compiled what is hot, and beside it how the first runs compare, most of which is compiling. The ratio is jsdom's
-// over ours: what else the machine does tells in both.
+// Each scene has a process of its own, in which both run it in turn, each time over new objects, until its time is over. The table has the quickest run of
+// each, when the engine has compiled the hot code. Beside it is the ratio of the first runs, which are mostly compiling. The ratio is jsdom's over ours:
+// other work on the machine slows down both.
 import { spawnSync } from "node:child_process";
 import { readFileSync } from "node:fs";
 import { createRequire } from "node:module";
@@ -61,8 +61,8 @@ const lacks = (scene) => scene === "updates" && found("preact") === null;
 const THREAD = "/proc/thread-self/schedstat";
 
 /**
- * The microseconds of processor time that the thread has taken which runs the program: other work on the machine tells less in it than in the time by the
- * clock, and so does the engine's collector, which marks what the other has left. Where the system does not say it, that of the process.
+ * Returns the microseconds of processor time of the thread that runs the program; if the system does not report them, those of the process. Other work on the
+ * machine affects them less than the time by the clock. So does the engine's collector, which marks the objects that the other has left.
  */
 function taken() {
   // (the system adds up a thread's time at its ticks, and when it is asked for the process's)
@@ -80,7 +80,7 @@ async function settled() {
   for (let time = 0; time < 2; time++) globalThis.gc({ type: "minor" });
 }
 
-/** Runs a scene once; answers whether it runs at all. */
+/** Runs a scene once; returns whether it runs at all. */
 async function runOnce(by, window, scene, count) {
   try {
     await timed(by, window, scene, count);

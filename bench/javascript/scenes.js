@@ -1,4 +1,4 @@
-// The scenes: each is made ready by a window and a count, and answers what is measured. The same code serves each window.
+// The scenes: each is prepared with a window and a count, and returns the function to measure. The same code serves each window.
 import { createRequire } from "node:module";
 
 import { PAGE_SCENES } from "./page_scenes.js";
@@ -12,7 +12,7 @@ function numbers() {
   };
 }
 
-/** A root with so many elements at random places below it, in a Document. */
+/** Makes a Document, and below its root elements at random places; the root and these are as many nodes as the count. */
 function forest({ document }, count) {
   const below = numbers();
   const root = document.implementation.createHTMLDocument("").documentElement;
@@ -21,7 +21,7 @@ function forest({ document }, count) {
   return { document: root.ownerDocument, root, nodes, below };
 }
 
-/** Moves leaves to random places, so many times. */
+/** Returns a function that moves a leaf to a random place, as many times as the count. */
 function moving({ root, nodes, below }, count) {
   const leaves = nodes.slice(-Math.ceil(nodes.length / 10)).filter((it) => !it.firstChild);
   const places = nodes.slice(0, Math.ceil(nodes.length / 2));
@@ -49,7 +49,7 @@ function textWithRanges({ document }, count) {
   return { text, ranges: rangesIn(text.ownerDocument, text, count) };
 }
 
-/** A page with so many nodes, or some more: paragraphs in sections, with attributes and Texts. */
+/** Makes a page of about as many nodes as the count: paragraphs in sections, with attributes and Texts. */
 function page({ document }, count) {
   const root = document.implementation.createHTMLDocument("").body;
   const made = root.ownerDocument;

@@ -1,6 +1,6 @@
-"""What a huckleport.h declares: its calls, structs and constants, for the scripts that try the library.
+"""Reads the declarations of a huckleport.h: its calls, structs and constants, for the scripts that test the library.
 
-They are read from the header and not from the exports, so that what is tried is what a program in C is told.
+They are read from the header and not from the exports, so that the scripts test the same declarations that a program in C has.
 """
 import ctypes
 import re

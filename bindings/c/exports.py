@@ -199,7 +199,7 @@ class Reader:
 
 
 def modules(folder=SOURCES):
-    """What each module of the crate offers to C."""
+    """Returns the exports, structs and constants of each module of the crate."""
     if not os.path.isdir(folder):
         sys.exit(f"{folder}: there are no exports here")
     return Reader(folder).modules()

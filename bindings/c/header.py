@@ -16,21 +16,23 @@ HEAD = """\
 /** @file huckleport.h
  * Documents by the DOM Standard. Made by bindings/c/header.py from the exports of the library; not to be edited.
  *
- * Every call answers a status: HP_OK, or why it was refused. A refused call changes nothing of the session, and leaves what its out
- * pointers point at. Every call with a session can also answer HP_CLOSED. One that takes memory can answer HP_OUT_OF_MEMORY. A question,
- * or a call that makes an object, has then changed nothing, and the session goes on. Another call ends the session, which so answers every
- * later command. Its state can still be read, by the calls that answer HP_ENDED in place of HP_OK: each held node with its names and
- * attributes, static ranges and walkers as before that call, all ranges, iterators and observers. hp_close frees all of it.
+ * Every call returns a status: HP_OK, or why it was refused. A refused call changes neither the session nor the values at its out
+ * pointers. Every call with a session can also return HP_CLOSED. One that takes memory can return HP_OUT_OF_MEMORY. A question, or a
+ * call that makes an object, has then changed nothing, and the session goes on. Any other call ends the session, and every later command
+ * returns HP_OUT_OF_MEMORY. The state of an ended session can still be read, by the calls that return HP_ENDED in place of HP_OK: each
+ * stored node with its names and attributes, static ranges and walkers as before that call, all ranges, iterators and observers. hp_close
+ * frees all of it.
  *
- * Objects are told by numbers, each kind from 0 on, and no number is used again. Node 0 is a Document. HP_NONE stands for null.
+ * Objects are identified by numbers, each kind from 0 on, and no number is used again. Node 0 is a Document. HP_NONE stands for null.
  * Names are UTF-8: bytes and their count. Texts are UTF-16: units and their count. Null with a count of 0 is an empty one.
- * What is lent (hp_bytes, and the structs whose name ends in _view) is read only, and lies there until the next call with the session.
+ * Borrowed data (hp_bytes, and the structs whose name ends in _view) is read only, and valid until the next call with the session.
  *
- * C has to keep, since no call can test it:
+ * The caller has to ensure the following, since no call can test it:
  * - a session is HP_SESSION_INIT, all zero bytes, before its first hp_open; only calls change it, and no two copies of it are used;
- * - pointers point at what their type says, and a count is how many units or bytes stand at the pointer before it, a capacity
- *   how many may be written there;
- * - what a call is handed stands apart: no two out pointers at one place, and nothing that the same session lent (copy it first);
+ * - pointers point at values of their type. A count is the number of units or bytes at the pointer before it, a capacity the number
+ *   that may be written there;
+ * - the arguments of a call do not overlap: no two out pointers are equal, and no argument is borrowed from the same session (copy it
+ *   first);
  * - a session is used by one thread at a time. Different sessions may be used by different threads at once;
  * - no call is made in a signal handler, nor in the forked child of a process with threads; malloc, realloc and free are one allocator's.
  */
@@ -79,7 +81,7 @@ WIDTH = 120
 
 
 def literals():
-    """What stands beside the exports, with the version in it."""
+    """Returns the declarations beside the exports, with the version in them."""
     major, minor, patch = VERSION.split(".")
     return LITERALS.replace("{version}", VERSION).replace("{number}", f"{major} * 1000000 + {minor} * 1000 + {patch}")
 
@@ -127,7 +129,7 @@ def prototype(name, parameters):
 
 
 def answered(export):
-    """What a call answers, with what is beside those statuses that each can answer."""
+    """Returns the line of a comment with the statuses that a call can return, beside those that every call can return."""
     forms = {(it.kind, it.type) for it in export.parameters}
     has_names = ("slice", "uint8_t") in forms and export.name != "hp_line"
     has_lengths = ("slice", "uint32_t") in forms
@@ -164,7 +166,7 @@ def handed(it):
 
 
 def count_of(it):
-    """The parameter that tells how much stands at a pointer, or how much there is room for."""
+    """Returns the parameter with the count of a slice, or with the capacity of an array."""
     return f"{it.name}_{'capacity' if it.kind == 'array' else 'length'}"
 
 
@@ -184,7 +186,7 @@ def mended(export, lent):
 
 
 def words(statuses):
-    """The inline call that tells how a status is printed."""
+    """Returns the inline call for the word of a status."""
     text = comment("How a status is printed, as in the reply to a line.")
     text += "static inline const char *hp_status_word(uint8_t status)\n{\n    switch (status) {\n"
     for it in statuses:
@@ -217,7 +219,7 @@ def options_are_known(structs):
 
 
 def header(found):
-    """The header of what a crate's modules offer."""
+    """Returns the header of a crate's modules."""
     constants = [it for module in found for it in module.constants]
     structs = ordered(it for module in found for it in module.structs)
     exports = [it for module in found for it in module.exports]
@@ -231,7 +233,7 @@ def header(found):
             text += "\n" + comment(it.doc + section(it.name), answered(it)) + prototype(it.name, it.parameters) + ";\n"
         if module.exports:
             text += "\n/** @} */\n"
-    text += "\n/** @cond */\n/* What stands in for null and for what is not set yet: the calls below are reached by the names of those above. */\n\n"
+    text += "\n/** @cond */\n/* The functions below replace null pointers and unset views. Macros give them the names of the calls above. */\n\n"
     text += "static const uint64_t hp_nothing[1] = { 0 };\n\n"
     text += "\n".join(filter(None, (mended(it, lent) for it in exports))) + "\n/** @endcond */\n\n" + words(it for module in found if module.name == "status" for it in module.constants)
     return text + TAIL

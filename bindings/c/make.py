@@ -1,9 +1,9 @@
 #!/usr/bin/env python3
 """Makes the library for C in one folder: libhuckleport.a, libhuckleport.so, huckleport.h and huckleport.pc.
 
-The archive is built of the proved assembly in generated/, where that is of the sources that are here; where it is not, or with --prove, crates/dom_c and what
-stands below are proved and built first, which takes long once. --library takes an archive that is there. The shared object shows the calls of the header and
-no other name. With --install the four go under a prefix.
+The archive is built of the proved assembly in generated/, if that was made of the sources that are here. Otherwise, or with --prove, crates/dom_c and the
+crates below it are proved and built first, which takes long once. --library takes an archive that is there. The shared object shows the calls of the header
+and no other name. With --install the four files are copied under a prefix.
 """
 import argparse
 import os
@@ -39,7 +39,7 @@ Cflags: -I${{includedir}}
 
 
 def pkgconfig(prefix, lib="", include=""):
-    """The text of huckleport.pc. A prefix that begins with ${pcfiledir} is told from where the file lies, so that its folder may be moved."""
+    """Returns the text of huckleport.pc. A prefix that begins with ${pcfiledir} is relative to the file's folder, so that this may be moved."""
     return PKGCONFIG.format(prefix=prefix, lib=lib, include=include, version=VERSION, license=LICENSE)
 
 
@@ -59,7 +59,7 @@ def kit():
 
 
 def build():
-    """Proves and builds what is missing of the crate and below it, or takes it from the kit's store, and returns the archive."""
+    """Proves and builds the crate and those below it that are missing, or takes them from the kit's store, and returns the archive."""
     if not start.start([CRATE]):
         sys.exit(f"{CRATE} was not proved and built")
     return start.built(CRATE)[0]
@@ -100,7 +100,7 @@ def merge(archives, to):
 
 
 def share(compiler, archive, names, folder):
-    """The shared object, which shows these names alone, and the names by which it is linked."""
+    """Makes the shared object, which shows these names alone, and the second name for linking; returns its path."""
     script = os.path.join(folder, "names.map")
     with open(script, "w", encoding="utf-8") as file:
         file.write(f"{SYMBOLS} {{ global: " + "".join(f"{it}; " for it in names) + "local: *; };\n")

@@ -1,4 +1,4 @@
-"""Where the DOM Standard tells of what a call does: the interface and its member. Calls that are not here are ours."""
+"""The sections of the DOM Standard on the calls: the interface and its member. Calls that are not here are ours."""
 
 # By interface: calls whose member has their name in the standard's spelling, and those with another.
 SAME = {
@@ -60,6 +60,6 @@ SECTIONS.update(OTHER)
 
 
 def section(call):
-    """What stands at a call's comment of the standard: nothing where the call is ours."""
+    """Returns the reference to the standard in a call's comment; empty if the call is ours."""
     found = SECTIONS.get(call[len("hp_") :])
     return f" DOM Standard: {found}." if found else ""

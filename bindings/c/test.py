@@ -1,12 +1,12 @@
 #!/usr/bin/env python3
-"""Makes the library for C, and tries all that it offers; says what it leaves out where gcc, g++ or valgrind is missing.
+"""Makes the library for C, and tests all that it offers; prints the tests that it leaves out if gcc, g++ or valgrind is missing.
 
 - the header compiles as C99 and as C++, and the shared object shows its calls alone;
 - each dialogue of dialogues through hp_line, byte for byte, and again through the calls of the header, from Python and from C;
-- each call with a closed session, and what is handed in wrongly;
-- what is read around a node and of what it holds, which takes no memory, and a hundred thousand children removed one by one;
-- how many objects of each kind there are, as they come and go, told with no memory taken;
-- what is released, which no call finds and which keeps no tree, and the memory after a million of each kind;
+- each call with a closed session, and wrong arguments;
+- the neighbours and the contents of a node, whose reading takes no memory, and a hundred thousand children removed one by one;
+- the number of objects of each kind, as they are made and released, counted without taking memory;
+- released objects, which no call finds and which keep no tree, and the memory after a million of each kind;
 - each allocation refused in turn over all dialogues, and over one of the calls that copy names and texts;
 - a session that goes on after each question and each making that was refused memory, compared with one that was never asked;
 - a session that has ended, read whole and compared with what it held before the call that was refused memory;
@@ -96,7 +96,7 @@ class Tests:
     def words_of_dialogues(self):
         return [word for it in self.dialogues for word in [*it.words, it.path, it.path[:-3] + ".out"]]
 
-    # what is tried
+    # the tests
 
     def header(self):
         ways = [(self.given.compiler, "c", ["-std=c99", "-std=c11"])]
@@ -113,7 +113,7 @@ class Tests:
                     self.say(f"the header compiles by {it}")
 
     def line_faults(self, it, program):
-        """What is wrong where a dialogue goes through hp_line; and whether it is under valgrind too."""
+        """Returns the fault of a dialogue through hp_line, by itself or under valgrind, or None."""
         status, out, said = self.run(program, *it.words, given=it.given)
         if status or out != it.due:
             return f"{it.name} through hp_line: status {status}, {'the same' if out == it.due else 'other'} bytes {said[-500:]}"
@@ -151,7 +151,7 @@ class Tests:
             self.alone("said", source=source, standard="-std=c99")
 
     def alone(self, name, *words, source=None, standard="-std=c11", link=()):
-        """A program that tells by its status, also under valgrind."""
+        """Runs a program that passes if its status is 0, under valgrind too; returns its output, or None."""
         program = self.compile(name, *link, source=source, standard=standard)
         out = program and self.must(name, program, *words)
         if not program or out is None:
@@ -279,7 +279,7 @@ PARTS = ("header", "lines", "typed", "closed", "misuse", "nearby", "counted", "r
 
 def main():
     parser = words_of(__doc__)
-    parser.add_argument("--step", type=int, default=37, help="under valgrind each so many-th allocation is refused (37)")
+    parser.add_argument("--step", type=int, default=37, help="under valgrind each STEP-th allocation is refused (37)")
     parser.add_argument("only", nargs="*", metavar="PART", help=f"only these parts: {', '.join(PARTS)}")
     given = parser.parse_args()
     unknown = [it for it in given.only if it not in PARTS]

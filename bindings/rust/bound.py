@@ -38,7 +38,7 @@ def plain(text):
 
 
 def declarations(text):
-    """What Rust's text declares of the library: names, with what stands behind each."""
+    """Returns the declarations of the library in a text of Rust: names, each with its parameters, fields or value."""
     calls = re.findall(r"\bfn (hp_\w+)\(([^)]*)\)\s*-> (\w+);", text)
     structs = re.findall(r"^pub(?:\(crate\))? struct (hp_\w+) \{(.*?)^\}", text, re.M | re.S)
     constants = re.findall(r"^pub(?:\(crate\))? const (HP_\w+): \w+ = (\d+);", text, re.M)
@@ -48,7 +48,7 @@ def declarations(text):
 
 
 def compared():
-    """How many names were compared, and what the two say otherwise of one; a constant that the crate does not have is no fault."""
+    """Returns how many names were compared, and the differences; a constant that the crate does not have is no fault."""
     with open(os.path.join(HERE, "src/ffi.rs"), encoding="utf-8") as file:
         ours = declarations(file.read())
     theirs = declarations(by_bindgen())

@@ -1,5 +1,8 @@
-//! Finds the library: in the folder that HUCKLEPORT_LIB_DIR names; else by pkg-config, if that has this version of it; else beside the crate, in `lib` or
-//! as `assembly`, which the C compiler (CC, or cc) compiles, as releases have them; or in the repository, where `bindings/c/make.py` makes it.
+//! Finds the library, by the first of these that applies:
+//! - in the folder that HUCKLEPORT_LIB_DIR names;
+//! - by pkg-config, if that has this version of the library;
+//! - beside the crate, as releases have it: in `lib`, or as `assembly`, which the C compiler (CC, or cc) compiles;
+//! - in the repository, where `bindings/c/make.py` makes it.
 use std::env;
 use std::path::{Path, PathBuf};
 use std::process::Command;
@@ -11,7 +14,7 @@ fn has_archive(folder: &Path) -> bool {
     folder.join(ARCHIVE).is_file()
 }
 
-/// What pkg-config knows is of this machine, and so no answer where another one is built for.
+/// Returns the folder that pkg-config knows; none if another machine is built for, since it knows this one alone.
 fn by_pkg_config() -> Option<PathBuf> {
     if env::var_os("TARGET") != env::var_os("HOST") {
         return None;

@@ -1,7 +1,7 @@
 #!/usr/bin/env python3
 """Writes src/ffi.rs: the calls of the library as Rust declares them, and over each a safe method of a handle.
 
-It is made from the exports of crates/dom_c, as the header for C is. With --check it writes nothing, and fails where the file says something else.
+It is made from the exports of crates/dom_c, as the header for C is. With --check it writes nothing, and fails if the file differs.
 """
 import argparse
 import os
@@ -34,12 +34,12 @@ OWN = {"hp_open", "hp_close"}
 HEAD = """\
 //! The calls of the library, and over each a safe method. Made by `declare.py` from the exports of the library; not to be edited.
 //!
-//! This is the one file with unsafe code. What makes its calls sound is the same for all:
-//! - a handle is all zero bytes before it is opened, stands in a place of its own, and only calls change it;
-//! - a slice's pointer is not null, also where the slice is empty, and neither is what a lent struct holds before a call;
+//! This is the one file with unsafe code. All of its calls are sound for the same reasons:
+//! - a handle is all zero bytes before it is opened, has an address of its own, and only calls change it;
+//! - a slice's pointer is not null, even if the slice is empty, and the pointer in a struct for borrowed data is not null before a call;
 //! - a handle is used by one thread at a time, since it is not `Sync`;
-//! - a call that changes the session takes `&mut self`, so that nothing is lent when it is made;
-//! - a call that reads the last answer leaves it there, so that what other reading calls lent stays.
+//! - a call that changes the session takes `&mut self`, so that nothing is borrowed when it is made;
+//! - a call that reads the last answer does not change it, so that data borrowed from other reading calls stays valid.
 // (some statuses and constants are not met here)
 #![allow(unsafe_code, dead_code)]
 
@@ -145,7 +145,7 @@ def given(it):
 
 
 def handed(it, place):
-    """A parameter as the safe method hands it on; what it writes stands at a place."""
+    """Returns a parameter as the safe method passes it on; an out value is written at a place."""
     name = named(it.name)
     forms = {"session": "self.session.get()", "scalar": name, "slice": f"{name}.as_ptr(), {name}.len()", "in": name, "out": f"&mut {place}"}
     forms["array"] = f"{name}.as_mut_ptr(), {name}.len()"
@@ -153,7 +153,7 @@ def handed(it, place):
 
 
 def nothing(it, lent):
-    """What an out pointer points at before the call."""
+    """Returns the value at an out pointer before the call."""
     if it.type in lent:
         pointer = lent[it.type].fields[0]
         return f"{it.type} {{ {pointer.name}: NonNull::dangling().as_ptr(), length: 0 }}"
@@ -161,7 +161,7 @@ def nothing(it, lent):
 
 
 def answered(it, place, lent):
-    """The type of what a call wrote at a place, and the value."""
+    """Returns the type of the value that a call wrote at a place, and the value."""
     if it.type not in lent:
         return rust(it.type), place
     pointer = lent[it.type].fields[0]
@@ -188,7 +188,7 @@ def method(it, is_reading, lent):
     if not any(its.type in lent for its in outs):
         return text + f"        if status == HP_OK {{ Ok({value}) }} else {{ Err(status) }}\n    }}\n"
     text += "        if status != HP_OK {\n            return Err(status);\n        }\n"
-    return text + f"        // SAFETY: what is lent lies there as long as the handle is borrowed.\n        Ok({value})\n    }}\n"
+    return text + f"        // SAFETY: the borrowed data is valid as long as the handle is borrowed.\n        Ok({value})\n    }}\n"
 
 
 def text_of(found):
@@ -207,7 +207,7 @@ def text_of(found):
 def main():
     parser = argparse.ArgumentParser(description=__doc__, formatter_class=argparse.RawDescriptionHelpFormatter)
     parser.add_argument("--sources", default=SOURCES, help="the folder of the exports (crates/dom_c/src)")
-    parser.add_argument("--check", action="store_true", help="only tell whether the file says what the exports say")
+    parser.add_argument("--check", action="store_true", help="only check that the file is the one of the exports")
     given_words = parser.parse_args()
     text = text_of(modules(given_words.sources))
     if not given_words.check:

@@ -1,7 +1,7 @@
 #!/usr/bin/env python3
-"""Builds and tests the library for Rust, without a network; says what it leaves out where cargo, or a part of it, is missing.
+"""Builds and tests the library for Rust, without a network; prints the tests that it leaves out if cargo, or a part of it, is missing.
 
-- src/ffi.rs says what the exports say, and declares what bindgen reads in the header for C;
+- src/ffi.rs is the file of the exports, and its declarations are those that bindgen reads in the header for C;
 - all tests and doc tests, the example, the documentation without a warning, and clippy;
 - all tests but those of comments once more by Debian's Rust, the oldest that the crate is for;
 - the feature html5ever in tests/parsing, with the crates of Debian.
@@ -42,7 +42,7 @@ def has(part):
 
 
 def run(steps, folder, environment, *words, cargo="cargo"):
-    """Runs steps of cargo in a folder. Answers whether each passed."""
+    """Runs steps of cargo in a folder. Returns whether each passed."""
     failed = False
     for what, (name, *rest) in steps:
         if name == "clippy" and not has("clippy"):
@@ -55,7 +55,7 @@ def run(steps, folder, environment, *words, cargo="cargo"):
 
 
 def by_oldest(environment):
-    """Tests by the oldest Rust, where that is there and not the one that ran already; answers whether that passed."""
+    """Tests by the oldest Rust, if that is there and not the one that ran already; returns whether that passed."""
     if os.path.realpath(shutil.which("cargo")) == os.path.realpath(OLDEST):
         return True
     if not os.path.isfile(OLDEST):
@@ -82,7 +82,7 @@ def mended(folder):
 
 
 def parsing(environment):
-    """Tests the feature, where Debian's packages are there; answers whether that passed."""
+    """Tests the feature, if Debian's packages are there; returns whether that passed."""
     missing = [package for name, package in PACKAGES.items() if not os.path.isdir(os.path.join(REGISTRY, name))]
     if missing:
         print(f"left out: the feature html5ever, since there is no {' and no '.join(missing)}")
@@ -98,7 +98,7 @@ def main():
     if not shutil.which("cargo"):
         print("left out: the library for Rust, since there is no cargo")
         return int(not passed)
-    # (what is tested is the library beside it, also where another is installed)
+    # (the library beside it is tested, even if another is installed)
     made = os.path.join(os.path.dirname(HERE), "c/out")
     environment = {"HUCKLEPORT_LIB_DIR": made, **os.environ, "RUSTDOCFLAGS": "-D warnings"}
     passed = run(STEPS, HERE, environment) and passed

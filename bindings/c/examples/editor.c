@@ -1,5 +1,5 @@
 /* A small editor's core: a document with a paragraph of text, a bookmark that stays at its words while they are edited, and an observer
- * that tells what changed. Build: gcc editor.c $(pkg-config --cflags --libs huckleport)
+ * whose records have the changes. Build: gcc editor.c $(pkg-config --cflags --libs huckleport)
  */
 #include "huckleport.h"
 #include <stdio.h>
@@ -12,7 +12,7 @@ typedef struct editor {
     uint32_t observer;
 } editor;
 
-/* Every call tells by its status whether it did what it says. */
+/* Ends the program if the status of a call is not HP_OK. */
 static void must(uint8_t status)
 {
     if (status == HP_OK)
@@ -41,7 +41,7 @@ static void put_units(const uint16_t *units, size_t length)
     }
 }
 
-/* Prints the text that the last call answered with: it is lent until the next call, so it is printed at once. */
+/* Prints the text that the last call returned. It is borrowed until the next call, so it is printed at once. */
 static void put_answer(editor *it)
 {
     hp_text_view text;
@@ -72,7 +72,7 @@ static void mark(editor *it, uint32_t from, uint32_t to)
     must(hp_set_end(&it->session, it->bookmark, it->text, to));
 }
 
-/* Tells where the bookmark is and what it holds. */
+/* Prints the ends of the bookmark and its text. */
 static void tell_bookmark(editor *it)
 {
     hp_ends ends;
@@ -83,13 +83,13 @@ static void tell_bookmark(editor *it)
     printf("\"\n");
 }
 
-/* Prints a name that is lent, which is UTF-8 already. */
+/* Prints a borrowed name, which is UTF-8 already. */
 static void put_name(hp_bytes name)
 {
     printf("%.*s", (int)name.length, (const char *)name.bytes);
 }
 
-/* Tells the nodes that a change added or removed. */
+/* Prints the nodes that a change added or removed. */
 static void tell_nodes(editor *it, size_t change, const hp_record *record)
 {
     uint32_t node;
@@ -103,7 +103,7 @@ static void tell_nodes(editor *it, size_t change, const hp_record *record)
     }
 }
 
-/* Tells one change: what it is, where, the nodes that came and went, and the value that was there before. */
+/* Prints one change: its type, its target, the added and removed nodes, and the old value. */
 static void tell_change(editor *it, size_t change)
 {
     hp_record record;
@@ -124,7 +124,7 @@ static void tell_change(editor *it, size_t change)
     printf("\n");
 }
 
-/* Tells what changed since it was asked last, and what the paragraph has now. */
+/* Prints the changes since the last call, and the text of the paragraph now. */
 static void tell_changes(editor *it)
 {
     size_t changes;
@@ -139,7 +139,7 @@ static void tell_changes(editor *it)
     printf("\"\n");
 }
 
-/* Puts what is marked into an element of that name, as an editor makes words bold. */
+/* Puts the contents of the bookmark into a new element of that name, as an editor makes words bold. */
 static void wrap_bookmark(editor *it, const char *name, size_t length)
 {
     uint32_t element;
@@ -164,7 +164,7 @@ int main(void)
     tell_changes(&it);
     tell_bookmark(&it);
 
-    /* A refusal is told, and changes nothing. */
+    /* A refused call returns why, and changes nothing. */
     printf("a text in a document: %s\n", hp_status_word(hp_append_child(&it.session, 0, it.text)));
     tell_changes(&it);
     must(hp_close(&it.session));

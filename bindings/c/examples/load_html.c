@@ -1,4 +1,4 @@
-/* Loads a page of HTML into a session as the parser of libxml2 tells of it (SAX), and writes the page as HTML.
+/* Loads a page of HTML into a session by the callbacks of libxml2's parser (SAX), and writes the page as HTML.
  * Build: gcc load_html.c $(pkg-config --cflags --libs huckleport libxml-2.0)
  * Run: ./a.out page.html, a page in UTF-8; without a name it is read from standard input.
  */
@@ -19,7 +19,7 @@ typedef struct loader {
     uint8_t status;
 } loader;
 
-/* Every call tells by its status whether it did what it says. The first one that did not ends the loading, and is told in the end. */
+/* Returns whether a call and all calls before it succeeded. The first refused call ends the loading, and is reported in the end. */
 static bool did(loader *it, const char *call, uint8_t status)
 {
     if (status == HP_OK)
@@ -33,14 +33,14 @@ static bool did(loader *it, const char *call, uint8_t status)
     return false;
 }
 
-/* ---- Texts. The parser speaks UTF-8, the library UTF-16. */
+/* ---- Texts. The parser uses UTF-8, the library UTF-16. */
 
 static size_t length_of(const xmlChar *text)
 {
     return text ? strlen((const char *)text) : 0;
 }
 
-/* Keeps a text as UTF-16 units, of which there are at most as many as bytes. */
+/* Stores a text as UTF-16 units. There are at most as many units as bytes. */
 static bool keep_units(loader *it, const xmlChar *text, size_t length)
 {
     if (it->room < length) {
@@ -62,7 +62,7 @@ static bool keep_units(loader *it, const xmlChar *text, size_t length)
     return true;
 }
 
-/* ---- What the parser tells. */
+/* ---- The callbacks of the parser. */
 
 static void put(loader *it, uint32_t node)
 {
@@ -297,7 +297,7 @@ typedef struct open_row {
     size_t row, depth;
 } open_row;
 
-/* Writes a row, and knows the open element around it. Tells whether what is below it and an end tag follow. */
+/* Writes a row inside the open element around it, if any. Returns whether its contents and an end tag follow. */
 static bool put_row(loader *it, size_t at, const hp_row *row, const open_row *around)
 {
     switch (row->type) {
@@ -310,7 +310,7 @@ static bool put_row(loader *it, size_t at, const hp_row *row, const open_row *ar
     }
 }
 
-/* Ends each open element that does not stand above this depth; tells how many are still open. */
+/* Ends each open element that is not above this depth; returns how many are still open. */
 static size_t end_down_to(loader *it, size_t depth, const open_row *open, size_t height)
 {
     for (; height > 0 && open[height - 1].depth >= depth; height--)
@@ -318,7 +318,7 @@ static size_t end_down_to(loader *it, size_t depth, const open_row *open, size_t
     return height;
 }
 
-/* Writes all rows but the first, which is the Document's. Nothing is written of what is below an element that has no end tag. */
+/* Writes all rows but the first, which is the Document's. The contents of an element that has no end tag are not written. */
 static void put_rows(loader *it, size_t count, open_row *open)
 {
     size_t height = 0, hidden = SIZE_MAX;

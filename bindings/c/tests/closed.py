@@ -1,7 +1,7 @@
 #!/usr/bin/env python3
 """Writes a C program that makes each call of a huckleport.h with a closed session, before it was open and after.
 
-Each has to answer HP_CLOSED, and to leave every byte that its out pointers point at. usage: closed.py HEADER > closed.c
+Each has to return HP_CLOSED, and to leave every byte that its out pointers point at. usage: closed.py HEADER > closed.c
 """
 import argparse
 import os
@@ -35,7 +35,7 @@ GIVEN = {"uint8_t": "bytes", "uint16_t": "units", "uint32_t": "lengths"}
 
 
 def arguments(call, found):
-    """The statements in front of a call, its arguments, and what is the same behind it."""
+    """Returns the statements before a call, its arguments, and the conditions that its out values are unchanged."""
     lines, given, same = [], [], []
     for at, it in enumerate(call.parameters):
         if it.type == "hp_session":

@@ -1,4 +1,4 @@
-/* How many objects of each kind there are, as they come and go: told with no memory taken, and the last answer stays. Linked with --wrap for
+/* The number of objects of each kind, as they are made and released. Counting takes no memory, and the last answer stays. Linked with --wrap for
  * malloc, realloc and free. */
 #include "huckleport.h"
 #include "kinds.h"
@@ -8,7 +8,7 @@ enum { SOME = 3000 };
 
 typedef uint8_t releasing(hp_session *, uint32_t);
 
-/* What there is, told without taking memory. */
+/* Returns the number of objects of each kind, without taking memory. */
 static hp_counts told(void)
 {
     hp_counts found = { 7, 7, 7, 7, 7, 7, 7 };
@@ -60,7 +60,7 @@ static void each(void)
     are(1, 0, 0, 0, 0, 0, 0);
 }
 
-/* A node that leaves its parent has a transient registration of what observes that with its subtree, once, until observers are told. */
+/* A removed node has one transient registration of each observer of its parent's subtree, until observers are notified. */
 static void transient(void)
 {
     uint32_t top = tree(), first = observer_over(top), second = observer_over(top), child = HP_NONE;
@@ -78,7 +78,7 @@ static void transient(void)
     are(1, 0, 0, 0, 0, 0, 0);
 }
 
-/* How many nodes were ever made, told without taking memory. */
+/* Returns how many nodes were ever made, without taking memory. */
 static uint64_t made(void)
 {
     uint64_t found = 7;
@@ -89,7 +89,7 @@ static uint64_t made(void)
     return found;
 }
 
-/* Discards the nodes that were made since, as far as they stand alone, and tells how many. */
+/* Discards the nodes that were made since, unless they are in use, and returns how many. */
 static size_t discarded(uint64_t since)
 {
     size_t found = 0;
@@ -101,7 +101,7 @@ static size_t discarded(uint64_t since)
     return found;
 }
 
-/* Surrounding makes a fragment that no answer names. It is found by its number and let go, so however often a node is surrounded, as many are there. */
+/* Surrounding makes a fragment that no answer names. It is found by its number and discarded, so the number of nodes does not grow with the turns. */
 static void unnamed(void)
 {
     uint64_t first = made();
@@ -135,7 +135,7 @@ static void stays(void)
     WANT(hp_count(&session, &count) == HP_OK && count == 0);
 }
 
-/* So many are there at once, and go in another order than they came. */
+/* SOME objects are there at once, and are released in another order than they were made. */
 static void many(uint32_t (*over)(uint32_t), releasing *release, size_t of(hp_counts))
 {
     static uint32_t numbers[SOME];

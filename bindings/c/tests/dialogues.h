@@ -98,7 +98,7 @@ static inline size_t line_length(const struct file *file, size_t at)
     return end ? (size_t)(end - (file->bytes + at)) : file->length - at;
 }
 
-/* Says a line, and returns whether what is lent belongs to the status: an error of that name, or an answer. */
+/* Sends a line, and returns its status; 255 if the borrowed reply does not fit the status: an error of that name, or an answer. */
 static inline uint8_t say(hp_session *session, const uint8_t *line, size_t length, hp_bytes *reply)
 {
     char error[80];

@@ -1,6 +1,6 @@
-/* Sessions that have ended, since an allocation was refused half-way: what they hold is read, whole, and is as it was before the call; commands say
- * that memory was wanting, a question that would be refused is, and after hp_close nothing is read. Each allocation of each call is refused
- * in turn. Linked with --wrap for malloc, realloc and free. */
+/* Sessions that have ended, since an allocation was refused in the middle of a call. Their state is read, whole, and is as it was before the call.
+ * Commands return HP_OUT_OF_MEMORY, a question that would be refused is refused, and after hp_close nothing is read. Each allocation of each call is
+ * refused in turn. Linked with --wrap for malloc, realloc and free. */
 #include "refusing.h"
 #include "wanting.h"
 #include <stdarg.h>
@@ -14,7 +14,7 @@ struct said {
 };
 
 static struct said before, after;
-/* The status of what is found: HP_OK, or HP_ENDED. */
+/* The status of a successful read: HP_OK, or HP_ENDED. */
 static uint8_t found;
 
 static void say(struct said *to, const char *form, ...)
@@ -52,7 +52,7 @@ static void build(void)
     WANT(said == HP_OK);
 }
 
-/* What a node is: its kind, its names and its attributes, and its data where no edit stopped half-way. */
+/* Writes the kind, the names and the attributes of a node, and its data if no edit stopped in the middle. */
 static void say_node(struct said *to, uint32_t node, bool stays)
 {
     hp_node_links links;
@@ -157,7 +157,7 @@ static uint8_t call(int number)
     }
 }
 
-/* What goes on once a session has ended: nothing but reading. */
+/* Once a session has ended, only reading succeeds. */
 static void ended(void)
 {
     uint32_t number = 7;

@@ -1,4 +1,4 @@
-/* What C hands in wrongly and what is asked for and not there: each is told by a status, and nothing changes. */
+/* Wrong arguments from C, and questions for missing items: each call returns its status, and nothing changes. */
 #include "huckleport.h"
 #include <stdio.h>
 #include <string.h>
@@ -102,7 +102,7 @@ static void parts(hp_session *session)
         faults++;
 }
 
-/* Rows: what is past the end or of another kind is not there, and leaves what the out pointers point at. */
+/* Rows: an item past the end or of another kind is HP_NOT_THERE, and the values at the out pointers stay. */
 static void rows(hp_session *session)
 {
     hp_row row = { 7, 7, 7, 7 };

@@ -1,6 +1,6 @@
-/* What is read of a node with no command, around it and of what it holds: what it says, that it takes no memory and leaves the last answer;
- * and that a program that removes its first child, or its last, as long as there is one takes no longer a child where there are many. Linked
- * with --wrap for malloc, realloc and free. */
+/* Calls that read the neighbours and the contents of a node with no command: their results, that they take no memory, and that the last answer stays.
+ * And a program that removes the first child, or the last, as long as there is one: it takes no longer for each child if there are many. Linked with
+ * --wrap for malloc, realloc and free. */
 #include "refusing.h"
 #include "wanting.h"
 #include <string.h>
@@ -10,7 +10,7 @@ enum { CHILDREN = 100000, FEW = 1000 };
 
 static uint32_t numbers[CHILDREN + 1];
 
-/* An element with so many children, from the number after its own on. */
+/* Makes an element with as many children as the count, from the number after its own on. */
 static uint32_t parent_of(uint32_t count)
 {
     uint32_t parent = HP_NONE, child;
@@ -86,7 +86,7 @@ static void copied(uint32_t parent, uint32_t count)
     WANT(hp_children_into(&session, parent + 1, numbers, 1, &told) == HP_OK && told == 0);
 }
 
-/* ---- what a node holds */
+/* ---- the contents of a node */
 
 static bool is_text(const hp_text_view *it, const char *due)
 {

@@ -23,7 +23,7 @@ def of_units(units):
 
 
 class Reader:
-    """What a session lends and tells of its last answer. The class over it has `call` and `must`, `words`, `structs` and `header`."""
+    """Reads the last answer of a session. The class over it has `call` and `must`, `words`, `structs` and `header`."""
 
     def nothing(self, form):
         """A struct whose pointers are real ones."""
@@ -36,7 +36,7 @@ class Reader:
         return found
 
     def lent(self, form, name, *words):
-        """What a call lends, as a list of units or bytes; None where it is not there."""
+        """Returns the data that a call lends, as a list of units or bytes; None if it is not there."""
         out = self.nothing(self.structs[form])
         status = self.call(name, *words, ctypes.byref(out))
         if self.words[status] == "not-there":
@@ -62,7 +62,7 @@ class Reader:
         return [bytes(name.bytes[: name.length]).decode(), of_units(value.units[: value.length])]
 
     def held(self, row):
-        """Whether what a row says that its node holds is what is lent of the node with no command."""
+        """Checks that the data and the attributes in a row are those that calls with no command lend of its node."""
         node, kind, last = row[1], row[2], row[-1]
         assert self.text("hp_data_of", node) == (last if kind in WITH_DATA else None), "hp_data_of"
         for at, due in enumerate([*(last if kind == ELEMENT else ()), None]):
@@ -135,7 +135,7 @@ class Reader:
         return [it.observer, self.records(at, it.records)]
 
     def many(self, name):
-        """The rows of a tree, the records that were taken, or what each observer was told."""
+        """Returns the rows of a tree, the records that were taken, or the notices of the observers."""
         count = self.count()
         calls = {"tree": ("hp_row", "hp_row_at"), "notify": ("hp_notice", "hp_notice_at")}
         for form, call in calls.values():

@@ -1,7 +1,8 @@
 /* Each allocation of each dialogue refused in turn: refused STEP ([--line BYTES] [--numbers N] LINES REPLIES)..
- * Up to the refusal the replies are the ones that are due. If the session goes on, the line is said again, and all replies are due. Else it
- * has ended, and each call says so. hp_close leaves nothing in use. A smaller block that is refused, in place of one that has more room than is needed, is not told: then all replies
- * are there, as due; this may be so of one refusal in twenty. Linked with --wrap for malloc, realloc and free. */
+ * Up to the refusal the replies are the expected ones. If the session goes on, the line is sent again, and all replies are the expected ones.
+ * Otherwise it has ended, and each call returns HP_OUT_OF_MEMORY. hp_close leaves nothing in use. If a smaller block is refused that was to replace one
+ * with too much room, no call reports it, and all replies are the expected ones. This may be so of one refusal in twenty. Linked with --wrap for
+ * malloc, realloc and free. */
 #include "dialogues.h"
 #include "refusing.h"
 
@@ -12,10 +13,10 @@ static bool goes_on(hp_session *session)
     return hp_in_use(session, &now) == HP_OK;
 }
 
-/* Lines that were said again. */
+/* Lines that were sent again. */
 static unsigned long again;
 
-/* Says all lines; returns the first fault, or NULL. `was_refused` tells whether the session said that memory was wanting. */
+/* Sends all lines; returns the first fault, or NULL. `was_refused` is set if the session has ended out of memory. */
 static const char *run(hp_session *session, const struct dialogue *it, bool *was_refused)
 {
     size_t due = 0;
@@ -31,7 +32,7 @@ static const char *run(hp_session *session, const struct dialogue *it, bool *was
         }
         at += length + 1;
         if (status == 255 || status == HP_CLOSED || (*was_refused && status != HP_OUT_OF_MEMORY))
-            return "a status that does not belong to what is lent, or another after memory was wanting";
+            return "a status that does not fit the borrowed reply, or another than HP_OUT_OF_MEMORY after the session ended";
         *was_refused = *was_refused || status == HP_OUT_OF_MEMORY;
         if (*was_refused)
             continue;
@@ -42,10 +43,10 @@ static const char *run(hp_session *session, const struct dialogue *it, bool *was
     return *was_refused || due == it->due.length ? NULL : "fewer replies than are due";
 }
 
-/* Runs in which the refusal was met and no call told of it. */
+/* Runs in which the refusal was met and no call reported it. */
 static unsigned long untold;
 
-/* One run with one refusal; `was_met` tells whether the refusal was met. */
+/* One run with one refusal; `was_met` is set if the refusal was met. */
 static const char *once(const struct dialogue *it, unsigned long at, bool *was_met)
 {
     hp_session session = HP_SESSION_INIT;
@@ -59,14 +60,14 @@ static const char *once(const struct dialogue *it, unsigned long at, bool *was_m
         if (hp_close(&session) != HP_OK)
             fault = "hp_close did not close";
     } else if (status != HP_OUT_OF_MEMORY) {
-        fault = "hp_open said something else than that memory was wanting";
+        fault = "hp_open returned another status than HP_OK and HP_OUT_OF_MEMORY";
     }
     counts = false;
     *was_met = asked >= at;
     if (!fault && session.is_open)
         fault = "the session is still open";
     if (!fault && (status == HP_OUT_OF_MEMORY || was_refused) && !*was_met)
-        fault = "memory was wanting where none was refused";
+        fault = "out of memory, though no allocation was refused";
     untold += *was_met && status == HP_OK && !was_refused && again == said_again;
     return fault || in_use == 0 ? fault : "something is in use after hp_close";
 }

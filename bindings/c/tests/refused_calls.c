@@ -1,6 +1,7 @@
 /* Each allocation of a scene of calls refused in turn: calls that copy names, texts, lists of names and trees. If the session goes on, the
- * call is made again, and all pass. Else it has ended, and each call says so. hp_close leaves nothing in use. A smaller block that is refused, in place of one that has
- * more room than is needed, is not told; this may be so of one refusal in twenty. Linked with --wrap for malloc, realloc and free. */
+ * call is made again, and all pass. Otherwise it has ended, and each call returns HP_OUT_OF_MEMORY. hp_close leaves nothing in use. If a smaller block
+ * is refused that was to replace one with too much room, no call reports it. This may be so of one refusal in twenty. Linked with --wrap for malloc,
+ * realloc and free. */
 #include "huckleport.h"
 #include "refusing.h"
 #include <stdio.h>
@@ -49,7 +50,7 @@ static uint8_t call(hp_session *session, int number)
 
 /* Calls that were made again. */
 static unsigned long again;
-/* Runs in which the refusal was met and no call told of it. */
+/* Runs in which the refusal was met and no call reported it. */
 static unsigned long untold;
 
 /* One run with one refusal: the first fault, or NULL. */
@@ -79,7 +80,7 @@ static const char *once(unsigned long at, bool *was_met, int *where)
     *was_met = asked >= at;
     untold += *was_met && !was_refused && again == made_again;
     if (!fault && was_refused && !*was_met)
-        fault = "memory was wanting where none was refused";
+        fault = "out of memory, though no allocation was refused";
     if (!fault && (session.is_open || in_use != 0))
         fault = "something is in use at the end";
     return fault;

@@ -1,4 +1,4 @@
-/* A malloc of which one allocation is refused, by the linker's --wrap for malloc, realloc and free. */
+/* A malloc that refuses one allocation, by the linker's --wrap for malloc, realloc and free. */
 #ifndef REFUSING_H
 #define REFUSING_H
 

@@ -1,6 +1,6 @@
-/* What is released: every call refuses it, its number is not given out again, and it keeps no tree in use. Of a hundred thousand of each kind
- * that are made and released one by one, or of a million with any word, no memory stays but a few bytes a thousand numbers, and releasing takes
- * none. Linked with --wrap for malloc, realloc and free. */
+/* Released objects: every call refuses them, their numbers are not used again, and they keep no tree in use. A hundred thousand of each kind are made
+ * and released one by one, or a million with any argument. Only a few bytes stay in use for each thousand numbers, and releasing takes no memory.
+ * Linked with --wrap for malloc, realloc and free. */
 #include "huckleport.h"
 #include "kinds.h"
 #include <malloc.h>
@@ -61,7 +61,7 @@ static void frees(uint32_t (*over)(uint32_t), releasing *release)
     WANT(release(&session, next) == HP_OK);
 }
 
-/* Every call refuses what was released, and leaves what its pointer points at. */
+/* Every call refuses released objects, and the value at its out pointer stays. */
 static void refused(void)
 {
     hp_options options = HP_OPTIONS_INIT;
@@ -103,7 +103,7 @@ static bool is_at(size_t index, uint32_t observer)
     return hp_number_at(&session, index, &number) == HP_OK && number == observer;
 }
 
-/* Of four observers that are told in turn the second is disconnected before its turn, the third's records are taken, and the last is released. */
+/* Four observers are notified in turn. Before their turns the second is disconnected, the third's records are taken, and the last is released. */
 static void in_turn(void)
 {
     uint32_t top = tree(), child = HP_NONE;
@@ -119,7 +119,7 @@ static void in_turn(void)
     WANT(hp_release_observer(&session, third) == HP_OK && hp_discard(&session, top) == HP_OK);
 }
 
-/* An observer that is released while records wait for it is told nothing more; another one is. */
+/* An observer that is released while records wait for it is no longer notified; another one is. */
 static void untold(void)
 {
     uint32_t top = tree(), gone = observer_over(top), stays = observer_over(top), child = HP_NONE, told = HP_NONE;

@@ -1,9 +1,9 @@
 #!/usr/bin/env python3
-"""Says each dialogue by the calls of the header, over the shared object, and compares the replies byte for byte.
+"""Makes the calls of the header for each dialogue, over the shared object, and compares the replies byte for byte.
 
-A line's command gives the call, its arguments go in by the call's own types, and the reply's line is put together from the status, the out
-pointers and what the session lends. Lines whose due reply refuses their form (no JSON, no command, arguments of another shape) have no
-call, and are left out; how many is told.
+A line's command gives the call, and its arguments are passed by the call's own types. The reply's line is put together from the status, the out
+pointers and the data that the session lends. Lines whose expected reply refuses their form (no JSON, no command, arguments of another shape) have no
+call. They are left out, and their number is printed.
 """
 import argparse
 import ctypes
@@ -38,7 +38,7 @@ MAYBE = ("nextNode", "previousNode", "walk")
 
 
 class NoCall(Exception):
-    """The header has no call for what a reply needs."""
+    """The header lacks a call that a reply needs."""
 
 
 def snake(name):
@@ -155,7 +155,7 @@ class Session(Reader):
     # answers
 
     def out(self, call):
-        """What a call's out pointer points at, before the call."""
+        """Returns the value at a call's out pointer before the call."""
         outs = [it for it in call.parameters if it.type != "hp_session" and it.is_pointer and not it.is_const]
         assert len(outs) < 2, call.name
         if not outs:
@@ -163,7 +163,7 @@ class Session(Reader):
         return self.structs[outs[0].type]() if outs[0].type in self.structs else SCALARS[outs[0].type](7)
 
     def nearby(self, node):
-        """What stands around a node, as the calls tell it that stand for no command; they tell the same, one by one and all at once."""
+        """Returns the links and the children of a node, by the calls that are no command; checks that they agree, one by one and all at once."""
         links = self.structs["hp_node_links"]()
         self.must("hp_links", node, ctypes.byref(links))
         for call, member in (("hp_first_child", "first_child"), ("hp_last_child", "last_child")):
@@ -202,7 +202,7 @@ class Session(Reader):
         return {**found, "type": it.kind}
 
     def agree(self, name, node, out):
-        """Whether what stands around a node is what its command says of it."""
+        """Checks that the links and the children of a node agree with the answer of its command."""
         links, children = self.nearby(node)
         if name == "node":
             same = all(getattr(links, it) == getattr(out, it) for it, _ in out._fields_)
@@ -266,7 +266,7 @@ def line_of(reply):
 
 
 def say(session, it, left_out):
-    """Says a dialogue; returns how many lines were said, and tells of the first reply that is another."""
+    """Makes the calls of a dialogue; returns for how many lines, and ends with a message at the first reply that differs."""
     session.program.dialogue(it.name)
     limits = dict(zip(it.words[::2], map(int, it.words[1::2])))
     session.must("hp_open", limits.get("--numbers", MOST), limits.get("--line", 1048576))

@@ -1,4 +1,4 @@
-/* The session of a test, and what tells a fault. */
+/* The session of a test, and the check that reports a fault. */
 #ifndef WANTING_H
 #define WANTING_H
 

@@ -1,4 +1,4 @@
-//! An undo list: an observer's records tell how a text was, and what was done is undone from the last to the first.
+//! An undo list: an observer's records have the data of a text before each change, and the changes are undone from the last to the first.
 //! Two live ranges are the cursors of two writers, and stay at their words meanwhile.
 use huckleport::{utf16, Node, Observer, Options, Range, Result, Session};
 
@@ -15,7 +15,7 @@ struct Editor {
     done: Vec<Change>,
 }
 
-/// Where two texts begin to differ, how many units of the first differ, and what the second has there.
+/// Returns where two texts begin to differ, how many units of the first differ, and the units that the second has there.
 fn difference<'a>(now: &[u16], before: &'a [u16]) -> (usize, usize, &'a [u16]) {
     let same = |(a, b): &(&u16, &u16)| a == b;
     let front = now.iter().zip(before).take_while(same).count();
@@ -36,7 +36,7 @@ impl Editor {
         Ok(Editor { session, text, observer, done: Vec::new() })
     }
 
-    /// A cursor around so many units.
+    /// Makes a cursor around the units between two offsets.
     fn cursor(&mut self, from: u32, to: u32) -> Result<Range> {
         let cursor = self.session.create_range(Node::DOCUMENT)?;
         self.session.set_start(cursor, self.text, from)?;
@@ -44,7 +44,7 @@ impl Editor {
         Ok(cursor)
     }
 
-    /// Puts words in place of others, and keeps what is told of it.
+    /// Puts words in place of others, and keeps the records of the change.
     fn put(&mut self, at: u32, count: u32, words: &str) -> Result<()> {
         self.session.replace_data(self.text, at, count, &utf16(words))?;
         for it in self.session.take_records(self.observer)? {
@@ -54,7 +54,7 @@ impl Editor {
         Ok(())
     }
 
-    /// Undoes the last change, where there is one: only the units that differ are put back, so that cursors beside them stay.
+    /// Undoes the last change, if there is one. Only the units that differ are put back, so that cursors beside them stay.
     fn undo(&mut self) -> Result<()> {
         let change = match self.done.pop() {
             Some(change) => change,
@@ -62,7 +62,7 @@ impl Editor {
         };
         let (at, count, words) = difference(self.session.data(change.text)?, &change.before);
         self.session.replace_data(change.text, at as u32, count as u32, words)?;
-        // (what undoing told is not to be undone)
+        // (the records of undoing are not to be undone)
         self.session.take_records(self.observer)?;
         Ok(())
     }

@@ -2,7 +2,7 @@
 use crate::ffi::Handle;
 use crate::numbers::{Node, Observer};
 
-/// What the last answer lends at an index that its count allows.
+/// Returns the part of the last answer at an index that its count allows.
 pub(crate) fn there<T>(found: Result<T, u8>) -> T {
     // (the answer is borrowed, so that no command can have changed it)
     found.expect("a part that was counted")
@@ -71,7 +71,7 @@ macro_rules! parts {
 }
 pub(crate) use parts;
 
-/// The index that stands for no answer, but for a node.
+/// The index that means a node, and no answer.
 const HELD: usize = usize::MAX;
 
 /// A part of the last answer: the handle, and the indexes that lead to it.
@@ -87,7 +87,7 @@ impl<'a> Part<'a> {
         Part { handle, notice: 0, index: 0 }
     }
 
-    /// A node, whose parts are told by calls that take no memory: also by a session that has ended.
+    /// Makes the part of a node, which is read by calls that take no memory, even of a session that has ended.
     pub(crate) fn held(handle: &'a Handle, node: Node) -> Self {
         Part { handle, notice: node.number() as usize, index: HELD }
     }

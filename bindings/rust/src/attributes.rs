@@ -4,14 +4,14 @@ use crate::exception::{Exception, Result};
 use crate::numbers::Node;
 use crate::session::Session;
 
-/// What toggling an attribute is to do.
+/// The effect of toggling an attribute.
 #[derive(Clone, Copy, Debug, PartialEq, Eq, Hash)]
 pub enum Force {
     /// Remove it.
     Remove,
     /// Add it.
     Add,
-    /// Turn round what is there.
+    /// Remove it if it is there, and add it if it is not.
     Toggle,
 }
 
@@ -49,7 +49,7 @@ impl Session {
         self.handle.remove_attribute(element.number(), name.as_bytes()).map_err(Exception::of)
     }
 
-    /// Adds or removes an attribute. Answers whether it is there from then on.
+    /// Adds or removes an attribute. Returns whether it is there from then on.
     pub fn toggle_attribute(&mut self, element: Node, name: &str, force: Force) -> Result<bool> {
         let force = match force {
             Force::Remove => 0,

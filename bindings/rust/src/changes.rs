@@ -1,4 +1,4 @@
-//! What nodes had on the two sides of a group of changes, and how one side is put in place of the other.
+//! The states of nodes on the two sides of a group of changes, and how one side replaces the other.
 use crate::exception::{Exception, Result};
 use crate::numbers::Node;
 use crate::records::{Record, RecordType};
@@ -7,7 +7,7 @@ use std::collections::{BTreeMap, BTreeSet};
 
 type Pairs = Vec<(String, Vec<u16>)>;
 pub(crate) type States = BTreeMap<Node, State>;
-/// In which order elements have their attributes, since no record tells where one stood that was taken out.
+/// The order of the attributes of elements, since no record has the position of a removed attribute.
 pub(crate) type Orders = BTreeMap<Node, Vec<String>>;
 
 /// A record that is kept past the next command.
@@ -38,7 +38,7 @@ impl From<Record<'_>> for Change {
 }
 
 impl Change {
-    /// Where its nodes came in or went, among the children as they were after it.
+    /// Returns where its nodes were inserted or removed, among the children as they were after it.
     fn place(&self, children: &[Node]) -> usize {
         let index = |of: Option<Node>| children.iter().position(|it| Some(*it) == of);
         let behind = index(self.previous).map(|at| at + 1);
@@ -46,7 +46,7 @@ impl Change {
     }
 }
 
-/// What a node had at a time, of that which changed.
+/// The changed parts of a node, as they were at one time.
 #[derive(Clone, Default, PartialEq)]
 pub(crate) struct State {
     /// Of the children those that differ between the two sides, and the index of the first.
@@ -56,7 +56,7 @@ pub(crate) struct State {
     pairs: Option<Pairs>,
 }
 
-/// An answer, or nothing where a node was discarded.
+/// Returns an answer, or none if a node was discarded.
 pub(crate) fn unless_gone<T>(answer: Result<T>) -> Result<Option<T>> {
     match answer {
         Err(Exception::NoSuchObject) => Ok(None),
@@ -82,7 +82,7 @@ fn pairs(session: &mut Session, element: Node) -> Result<Pairs> {
 }
 
 impl State {
-    /// Reads what a record's type names, as it is now.
+    /// Reads the part of a node that a record's type names, as it is now.
     fn read(&mut self, session: &mut Session, change: &Change) -> Result<()> {
         match change.record_type {
             RecordType::ChildList if self.children.is_none() => self.children = unless_gone(children(session, change.target))?,
@@ -95,7 +95,7 @@ impl State {
         Ok(())
     }
 
-    /// Makes it what it was before a change.
+    /// Changes it back to the state before a change.
     fn take_back(&mut self, change: &Change) {
         match change.record_type {
             RecordType::CharacterData if self.data.is_some() => self.data = change.old.clone(),
@@ -137,7 +137,7 @@ fn without(mut pairs: Pairs, name: &str, old: Option<&[u16]>) -> Pairs {
     pairs
 }
 
-/// Learns the orders of attributes of a node and what stands below it.
+/// Stores the orders of the attributes of a node and its descendants.
 pub(crate) fn learn(session: &mut Session, node: Node, orders: &mut Orders) -> Result<()> {
     let rows = match unless_gone(session.tree(node))? {
         Some(rows) => rows,
@@ -148,13 +148,13 @@ pub(crate) fn learn(session: &mut Session, node: Node, orders: &mut Orders) -> R
     Ok(())
 }
 
-/// What nodes had before changes, by what they have now.
+/// Returns the states of nodes before changes, from their states now.
 fn back_from(after: &States, changes: &[Change]) -> States {
     let mut before = after.clone();
     let mut holders: BTreeMap<Node, Node> = after.iter().flat_map(|(&node, state)| state.nodes().map(move |it| (it, node))).collect();
     for it in changes.iter().rev() {
         for node in &it.removed {
-            // (it may have come to another node while that one stood outside, as no record tells)
+            // (it may have been inserted into another node while that one was outside, without a record)
             if let Some(state) = holders.insert(*node, it.target).and_then(|holder| before.get_mut(&holder)) {
                 state.lose(*node);
             }
@@ -164,7 +164,7 @@ fn back_from(after: &States, changes: &[Change]) -> States {
     before
 }
 
-/// What the nodes of changes had before these, and what they have now.
+/// Returns the states of the nodes of changes before these, and their states now.
 pub(crate) fn states(session: &mut Session, changes: &[Change], orders: &mut Orders) -> Result<(States, States)> {
     let mut after = States::new();
     for it in changes {
@@ -191,7 +191,7 @@ fn settle(node: Node, before: &mut State, after: &mut State, orders: &mut Orders
     narrow(before, after);
 }
 
-/// Adds what no record tells: the nodes that hold now what has to go back, since they were given it while they stood outside.
+/// Adds nodes that no record has: the present parents of children that have to be put back, if these were inserted while the parent was outside.
 fn lend(session: &mut Session, before: &mut States, after: &mut States) -> Result<()> {
     let mut back = BTreeSet::new();
     for (node, state) in before.iter() {
@@ -227,7 +227,7 @@ fn narrow(one: &mut State, other: &mut State) {
     (one.at, other.at) = (first, first);
 }
 
-/// Takes out the children that are to go, and tells for each parent what stands behind them.
+/// Removes the children of one side, and returns for each parent the sibling after them, if any.
 fn take_out(session: &mut Session, now: &States) -> Result<Vec<(Node, Option<Node>)>> {
     let mut behind = Vec::new();
     for (&parent, state) in now.iter().filter(|(_, state)| state.children.is_some()) {
@@ -265,8 +265,8 @@ fn put_data(session: &mut Session, node: Node, due: &[u16]) -> Result<()> {
     session.replace_data(node, front as u32, count as u32, words)
 }
 
-/// Puts what nodes have on one side of a group in place of what they have on the other. All that goes is taken out first, so that no node
-/// comes under itself.
+/// Replaces the states of nodes on one side of a group by those on the other. All children to remove are removed first, so that no node
+/// is inserted under itself.
 pub(crate) fn put(session: &mut Session, now: &States, due: &States) -> Result<()> {
     for (parent, reference) in take_out(session, now)? {
         due[&parent].nodes().try_for_each(|child| session.insert_before(parent, child, reference).map(drop))?;

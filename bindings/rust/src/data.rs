@@ -29,23 +29,23 @@ impl Session {
         self.handle.insert_data(node.number(), offset, data).map_err(Exception::of)
     }
 
-    /// Deletes so many units from an offset on.
+    /// Deletes `count` units from an offset on.
     pub fn delete_data(&mut self, node: Node, offset: u32, count: u32) -> Result<()> {
         self.handle.delete_data(node.number(), offset, count).map_err(Exception::of)
     }
 
-    /// Puts a text in place of so many units from an offset on.
+    /// Replaces `count` units from an offset on by a text.
     pub fn replace_data(&mut self, node: Node, offset: u32, count: u32, data: &[u16]) -> Result<()> {
         self.handle.replace_data(node.number(), offset, count, data).map_err(Exception::of)
     }
 
-    /// So many units from an offset on.
+    /// Returns `count` units from an offset on.
     pub fn substring_data(&mut self, node: Node, offset: u32, count: u32) -> Result<&[u16]> {
         self.handle.substring_data(node.number(), offset, count).map_err(Exception::of)?;
         self.handle.text().map_err(Exception::of)
     }
 
-    /// Splits a Text at an offset. Answers the new Text, which has what stood behind it.
+    /// Splits a Text at an offset. Returns the new Text, which has the units after the offset.
     pub fn split_text(&mut self, text: Node, offset: u32) -> Result<Node> {
         self.handle.split_text(text.number(), offset).map(Node::from_number).map_err(Exception::of)
     }

@@ -2,7 +2,7 @@
 use crate::ffi;
 use std::fmt;
 
-/// What a command answers, or why it was refused.
+/// The result of a command, or why it was refused.
 pub type Result<T> = std::result::Result<T, Exception>;
 
 macro_rules! exceptions {
@@ -22,7 +22,7 @@ macro_rules! exceptions {
                 }
             }
 
-            /// Returns what is wrong, in words.
+            /// Returns the meaning of the exception, in words.
             pub const fn meaning(self) -> &'static str {
                 match self {
                     $(Exception::$name => $meaning,)*

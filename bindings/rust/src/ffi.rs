@@ -1,11 +1,11 @@
 //! The calls of the library, and over each a safe method. Made by `declare.py` from the exports of the library; not to be edited.
 //!
-//! This is the one file with unsafe code. What makes its calls sound is the same for all:
-//! - a handle is all zero bytes before it is opened, stands in a place of its own, and only calls change it;
-//! - a slice's pointer is not null, also where the slice is empty, and neither is what a lent struct holds before a call;
+//! This is the one file with unsafe code. All of its calls are sound for the same reasons:
+//! - a handle is all zero bytes before it is opened, has an address of its own, and only calls change it;
+//! - a slice's pointer is not null, even if the slice is empty, and the pointer in a struct for borrowed data is not null before a call;
 //! - a handle is used by one thread at a time, since it is not `Sync`;
-//! - a call that changes the session takes `&mut self`, so that nothing is lent when it is made;
-//! - a call that reads the last answer leaves it there, so that what other reading calls lent stays.
+//! - a call that changes the session takes `&mut self`, so that nothing is borrowed when it is made;
+//! - a call that reads the last answer does not change it, so that data borrowed from other reading calls stays valid.
 // (some statuses and constants are not met here)
 #![allow(unsafe_code, dead_code)]
 
@@ -396,7 +396,7 @@ impl Handle {
         if status != HP_OK {
             return Err(status);
         }
-        // SAFETY: what is lent lies there as long as the handle is borrowed.
+        // SAFETY: the borrowed data is valid as long as the handle is borrowed.
         Ok(unsafe { std::slice::from_raw_parts(out.units, out.length) })
     }
 
@@ -407,7 +407,7 @@ impl Handle {
         if status != HP_OK {
             return Err(status);
         }
-        // SAFETY: what is lent lies there as long as the handle is borrowed.
+        // SAFETY: the borrowed data is valid as long as the handle is borrowed.
         Ok(unsafe { std::slice::from_raw_parts(out.bytes, out.length) })
     }
 
@@ -418,7 +418,7 @@ impl Handle {
         if status != HP_OK {
             return Err(status);
         }
-        // SAFETY: what is lent lies there as long as the handle is borrowed.
+        // SAFETY: the borrowed data is valid as long as the handle is borrowed.
         Ok(unsafe { std::slice::from_raw_parts(out.bytes, out.length) })
     }
 
@@ -450,7 +450,7 @@ impl Handle {
         if status != HP_OK {
             return Err(status);
         }
-        // SAFETY: what is lent lies there as long as the handle is borrowed.
+        // SAFETY: the borrowed data is valid as long as the handle is borrowed.
         Ok(unsafe { std::slice::from_raw_parts(out.bytes, out.length) })
     }
 
@@ -468,7 +468,7 @@ impl Handle {
         if status != HP_OK {
             return Err(status);
         }
-        // SAFETY: what is lent lies there as long as the handle is borrowed.
+        // SAFETY: the borrowed data is valid as long as the handle is borrowed.
         Ok(unsafe { std::slice::from_raw_parts(out.bytes, out.length) })
     }
 
@@ -479,7 +479,7 @@ impl Handle {
         if status != HP_OK {
             return Err(status);
         }
-        // SAFETY: what is lent lies there as long as the handle is borrowed.
+        // SAFETY: the borrowed data is valid as long as the handle is borrowed.
         Ok(unsafe { std::slice::from_raw_parts(out.units, out.length) })
     }
 
@@ -490,7 +490,7 @@ impl Handle {
         if status != HP_OK {
             return Err(status);
         }
-        // SAFETY: what is lent lies there as long as the handle is borrowed.
+        // SAFETY: the borrowed data is valid as long as the handle is borrowed.
         Ok(unsafe { std::slice::from_raw_parts(out.bytes, out.length) })
     }
 
@@ -501,7 +501,7 @@ impl Handle {
         if status != HP_OK {
             return Err(status);
         }
-        // SAFETY: what is lent lies there as long as the handle is borrowed.
+        // SAFETY: the borrowed data is valid as long as the handle is borrowed.
         Ok(unsafe { std::slice::from_raw_parts(out.units, out.length) })
     }
 
@@ -547,7 +547,7 @@ impl Handle {
         if status != HP_OK {
             return Err(status);
         }
-        // SAFETY: what is lent lies there as long as the handle is borrowed.
+        // SAFETY: the borrowed data is valid as long as the handle is borrowed.
         Ok(unsafe { std::slice::from_raw_parts(out.bytes, out.length) })
     }
 
@@ -558,7 +558,7 @@ impl Handle {
         if status != HP_OK {
             return Err(status);
         }
-        // SAFETY: what is lent lies there as long as the handle is borrowed.
+        // SAFETY: the borrowed data is valid as long as the handle is borrowed.
         Ok(unsafe { std::slice::from_raw_parts(out.units, out.length) })
     }
 
@@ -794,7 +794,7 @@ impl Handle {
         if status != HP_OK {
             return Err(status);
         }
-        // SAFETY: what is lent lies there as long as the handle is borrowed.
+        // SAFETY: the borrowed data is valid as long as the handle is borrowed.
         Ok(unsafe { std::slice::from_raw_parts(out.bytes, out.length) })
     }
 
@@ -805,7 +805,7 @@ impl Handle {
         if status != HP_OK {
             return Err(status);
         }
-        // SAFETY: what is lent lies there as long as the handle is borrowed.
+        // SAFETY: the borrowed data is valid as long as the handle is borrowed.
         Ok(unsafe { std::slice::from_raw_parts(out.units, out.length) })
     }
 
@@ -817,7 +817,7 @@ impl Handle {
         if status != HP_OK {
             return Err(status);
         }
-        // SAFETY: what is lent lies there as long as the handle is borrowed.
+        // SAFETY: the borrowed data is valid as long as the handle is borrowed.
         Ok((unsafe { std::slice::from_raw_parts(name.bytes, name.length) }, unsafe { std::slice::from_raw_parts(value.units, value.length) }))
     }
 

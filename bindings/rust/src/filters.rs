@@ -1,12 +1,12 @@
 //! Filters of iterators and walkers, and lists of names.
 
-/// What iterators and walkers show: every kind of node. Else a bit is set for each kind, by the standard.
+/// Makes iterators and walkers show every kind of node. Other values have a bit for each kind, by the standard.
 pub const SHOW_ALL: u32 = u32::MAX;
 
-/// What a filter says of a node, by the standard's numbers.
+/// The verdict of a filter on a node, by the standard's numbers.
 #[derive(Clone, Copy, Debug, PartialEq, Eq, Hash)]
 pub enum Verdict {
-    /// The node is answered.
+    /// The node is returned.
     Accept = 1,
     /// The node is passed over, and for a walker all below it.
     Reject = 2,
@@ -14,7 +14,7 @@ pub enum Verdict {
     Skip = 3,
 }
 
-/// A rule of a filter: a name, `*` for every one, and what is said of nodes that have it. The first rule that fits decides.
+/// A rule of a filter: a name, or `*` for every name, and the verdict on nodes that have it. The first rule that fits decides.
 pub type Rule<'a> = (&'a str, Verdict);
 
 /// Names as the library takes them: the bytes of all, one after the other, and the length of each.
@@ -28,7 +28,7 @@ impl Listed {
         let mut listed = Listed { bytes: Vec::new(), lengths: Vec::new() };
         for name in names {
             listed.bytes.extend_from_slice(name.as_bytes());
-            // (a name that is longer does not fit its length, which the library tells)
+            // (a name that is longer does not fit its length, which the library refuses)
             listed.lengths.push(u32::try_from(name.len()).unwrap_or(u32::MAX));
         }
         listed

@@ -13,7 +13,7 @@ use std::mem;
 
 type Places = BTreeMap<Range, Ends>;
 
-/// What nodes and ranges had at one time.
+/// The states of nodes and ranges at one time.
 struct Side {
     states: States,
     places: Places,
@@ -25,7 +25,7 @@ struct Group {
     after: Side,
 }
 
-/// Lets an observer watch a node and what is below it.
+/// Lets an observer watch a node and its descendants.
 fn watch(session: &mut Session, observer: Observer, root: Node) -> Result<()> {
     let options = Options {
         child_list: Some(true),
@@ -37,10 +37,10 @@ fn watch(session: &mut Session, observer: Observer, root: Node) -> Result<()> {
     session.observe(observer, root, &options)
 }
 
-/// Undoes and redoes what changes below a node.
+/// Undoes and redoes changes of a node and its descendants.
 ///
-/// It watches the node by an observer of its own. Ranges that it keeps go back with the changes, each where it stood before them, unless it
-/// was set elsewhere since. Nodes that are taken out must not be discarded while it may have to put them back.
+/// It watches the node by an observer of its own. Ranges that it keeps go back with the changes, each to where it was before them, unless it
+/// was set elsewhere since. Removed nodes must not be discarded while it may have to put them back.
 ///
 /// ```
 /// use huckleport::{utf16, History, Node, Session};
@@ -72,7 +72,7 @@ pub struct History {
 }
 
 impl History {
-    /// A history of what changes in a node and below it from now on. Each call has to be handed the session that has the node.
+    /// Makes a history of the changes of a node and its descendants from now on. Pass to each call the session that has the node.
     pub fn new(session: &mut Session, root: Node) -> Result<History> {
         let observer = session.create_observer()?;
         let observer = session.own(observer);
@@ -88,17 +88,17 @@ impl History {
         self.root
     }
 
-    /// Its observer. What [`Session::notify`] or [`Session::tell_observer`] says that this one is told has to be handed to [`told`](History::told).
+    /// Returns its observer. If [`Session::notify`] or [`Session::tell_observer`] returns records for it, pass them to [`told`](History::told).
     pub fn observer(&self) -> Observer {
         *self.observer
     }
 
-    /// Takes what its observer was told.
+    /// Takes the records that its observer was notified of.
     pub fn told(&mut self, records: Records<'_>) {
         self.changes.extend(records.map(Change::from));
     }
 
-    /// Keeps a range: undoing puts it back where it stood.
+    /// Keeps a range: undoing puts it back where it was.
     pub fn keep(&mut self, session: &mut Session, range: Range) -> Result<()> {
         self.places.insert(range, session.range(range)?);
         self.ranges.push(range);
@@ -110,7 +110,7 @@ impl History {
         self.ranges.retain(|it| *it != range);
     }
 
-    /// What is changed meanwhile, the places of ranges too, is undone together, also where it answers an exception.
+    /// Makes one group of all changes by `edits`, the moves of ranges too, even if `edits` returns an exception. They are undone together.
     pub fn group<T>(&mut self, session: &mut Session, edits: impl FnOnce(&mut Session) -> Result<T>) -> Result<T> {
         self.commit(session)?;
         self.places = self.places_now(session)?;
@@ -119,12 +119,12 @@ impl History {
         answer
     }
 
-    /// Makes a group of what changed since the last one. Answers whether anything did.
+    /// Makes a group of the changes since the last group. Returns whether there were any.
     pub fn commit(&mut self, session: &mut Session) -> Result<bool> {
         self.close_group(session, false)
     }
 
-    /// Undoes the last group. Answers whether there was one.
+    /// Undoes the last group. Returns whether there was one.
     pub fn undo(&mut self, session: &mut Session) -> Result<bool> {
         self.commit(session)?;
         let group = match self.done.pop() {
@@ -136,7 +136,7 @@ impl History {
         was_put.map(|()| true)
     }
 
-    /// Does again what was undone last. Answers whether there was anything; nothing is once something else has changed.
+    /// Redoes the group that was undone last. Returns whether there was one; there is none once something else has changed.
     pub fn redo(&mut self, session: &mut Session) -> Result<bool> {
         self.commit(session)?;
         let group = match self.undone.pop() {
@@ -168,7 +168,7 @@ impl History {
         Ok(())
     }
 
-    /// Watches no longer, and lets its observer go. One that is dropped does so at the session's next command.
+    /// Stops watching, and releases its observer. A history that is dropped does so at the session's next command.
     pub fn close(self, session: &mut Session) -> Result<()> {
         session.release_observer(self.observer.into_inner())
     }
@@ -181,7 +181,7 @@ impl History {
         Ok(found)
     }
 
-    /// Takes what changed, and watches no longer what was taken out, of which the core keeps for each node by whom it is still watched.
+    /// Takes the changes, and stops watching removed nodes. For each of these the core would keep the observers that still watch it.
     fn take(&mut self, session: &mut Session) -> Result<Vec<Change>> {
         self.changes.extend(session.take_records(*self.observer)?.map(Change::from));
         session.disconnect(*self.observer)?;
@@ -189,7 +189,7 @@ impl History {
         Ok(mem::take(&mut self.changes))
     }
 
-    /// Makes a group of what changed; where all is as it was, there is none. That a range was moved and nothing else changed is a group where the program asked for one.
+    /// Makes a group of the changes, and returns whether there is one. If nothing but ranges has changed, there is one only if `has_moves`.
     fn close_group(&mut self, session: &mut Session, has_moves: bool) -> Result<bool> {
         let changes = self.take(session)?;
         let now = self.places_now(session)?;

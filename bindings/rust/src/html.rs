@@ -24,7 +24,7 @@ use crate::writing::{characters, inside, whole, Markup};
 #[cfg(feature = "html5ever")]
 pub use crate::parsing::{parse, parse_fragment, Handle, Sink};
 
-/// Elements that have no end tag, and of which nothing that is below them is written.
+/// Elements that have no end tag, and whose descendants are not written.
 const VOID: [&str; 18] = [
     "area", "base", "basefont", "bgsound", "br", "col", "embed", "frame", "hr", "img", "input", "keygen", "link", "meta", "param", "source", "track",
     "wbr",
@@ -97,14 +97,14 @@ impl Markup for Html {
     }
 }
 
-/// A node and all below it as HTML. A Document and a DocumentFragment are what is below them.
+/// Writes a node and its descendants as HTML. For a Document or a DocumentFragment these are its descendants alone.
 ///
-/// A surrogate that stands alone is U+FFFD, as where a text is written in UTF-8. Nothing below a void element is written (`br` has no end tag).
+/// A lone surrogate is written as U+FFFD, as in UTF-8. The descendants of a void element are not written (`br` has no end tag).
 pub fn serialize(session: &mut Session, node: Node) -> Result<String> {
     whole(session, node, &Html)
 }
 
-/// What is below a node as HTML: nothing, for a void element.
+/// Writes the descendants of a node as HTML: nothing, for a void element.
 pub fn serialize_children(session: &mut Session, node: Node) -> Result<String> {
     let is_void = session.node(node)?.name().map_or(false, |it| VOID.contains(&it));
     if is_void {

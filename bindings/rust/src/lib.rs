@@ -1,10 +1,10 @@
 //! Documents by the WHATWG DOM Standard: trees of nodes, UTF-16 character data, attributes, live ranges, node iterators, tree walkers
 //! and mutation observers, over the proved core of Huckleport.
 //!
-//! A [`Session`] has all objects, which are told by numbers of their own types: [`Node`], [`Range`], [`StaticRange`],
-//! [`NodeIterator`], [`TreeWalker`] and [`Observer`]. Every command is a method of the session, and answers what the standard says,
+//! A [`Session`] has all objects. They are identified by numbers of their own types: [`Node`], [`Range`], [`StaticRange`],
+//! [`NodeIterator`], [`TreeWalker`] and [`Observer`]. Every command is a method of the session. It returns the result by the standard,
 //! or an [`Exception`]. A command that was refused changes nothing.
-//! Numbers are copied freely, and an object stands until it is let go by its number, or until an [`Owned`] of it is dropped.
+//! Numbers are copied freely. An object stays until it is freed by its number, or until an [`Owned`] of it is dropped.
 //!
 //! ```
 //! use huckleport::{utf16, Node, Session};
@@ -28,7 +28,7 @@
 //!
 //! [`html`] and [`xml`] write nodes as HTML and XML; with the feature `html5ever`, [`html`] also parses. A [`History`] undoes changes.
 //!
-//! What a session answers in many parts (children, names, rows, records) or as a text is borrowed from it until its next command:
+//! An answer of many parts (children, names, rows, records) or a text is borrowed from the session until its next command:
 //!
 //! ```compile_fail,E0505
 //! use huckleport::{Node, Session};

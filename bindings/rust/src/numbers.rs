@@ -1,4 +1,4 @@
-//! The numbers by which objects are told, each kind from 0 on.
+//! The numbers of objects, each kind from 0 on.
 use crate::ffi::HP_NONE;
 
 macro_rules! numbers {
@@ -26,7 +26,7 @@ macro_rules! numbers {
 numbers! {
     /// A node of a session's trees.
     Node,
-    /// A live range, whose ends move with what is edited.
+    /// A live range, whose ends move with edits.
     Range,
     /// A static range, whose ends stay as they were given.
     StaticRange,

@@ -7,7 +7,7 @@ use crate::numbers::{Node, Observer};
 use crate::records::{Notices, Records};
 use crate::session::Session;
 
-/// What an observer asks for: the members of the standard's `MutationObserverInit`, each of which may be absent.
+/// The options of an observer: the members of the standard's `MutationObserverInit`. Each of them may be absent.
 #[derive(Clone, Copy, Debug, Default, PartialEq, Eq, Hash)]
 pub struct Options<'a> {
     /// Whether children are observed.
@@ -78,19 +78,19 @@ impl Session {
         Ok(Notices::new(Part::whole(&self.handle), count))
     }
 
-    /// The observers that wait to be told.
+    /// Returns the observers that wait to be notified.
     pub fn pending(&mut self) -> Result<Observers<'_>> {
         self.handle.pending().map_err(Exception::of)?;
         let count = self.handle.count().map_err(Exception::of)?;
         Ok(Observers::new(Part::whole(&self.handle), count))
     }
 
-    /// Takes the observers that wait to be told, in the order of their turns: none of them waits any more. Their records stay, and
-    /// [`tell_observer`](Session::tell_observer) tells each in its turn.
+    /// Takes the observers that wait to be notified, in the order of their turns: none of them waits any more. Their records stay, and
+    /// [`tell_observer`](Session::tell_observer) notifies each in its turn.
     ///
-    /// These are the standard's steps to notify mutation observers, for a program that does something for each observer before the next is told. One
-    /// that was disconnected meanwhile, or whose records were taken, is told no records. A change meanwhile is told to an observer whose turn is
-    /// still to come, and makes the others wait anew.
+    /// These are the standard's steps to notify mutation observers, for a program that does something for each observer before the next is notified.
+    /// An observer that was disconnected meanwhile, or whose records were taken, gets no records. An observer whose turn is still to come gets the
+    /// record of a change meanwhile too. Such a change makes the others wait again.
     ///
     /// ```
     /// use huckleport::{Exception, Node, Options, Result, Session};
@@ -124,7 +124,7 @@ impl Session {
         Ok(Observers::new(Part::whole(&self.handle), count))
     }
 
-    /// Tells an observer in its turn: takes its records, and ends its transient registrations.
+    /// Notifies an observer in its turn: takes its records, and ends its transient registrations.
     ///
     /// One that was released is `NoSuchObject`. See [`take_pending`](Session::take_pending).
     pub fn tell_observer(&mut self, observer: Observer) -> Result<Records<'_>> {
@@ -133,7 +133,7 @@ impl Session {
         Ok(Records::new(Part::whole(&self.handle), count))
     }
 
-    /// Lets an observer go: it watches nothing more, and is not told the records that waited for it.
+    /// Releases an observer: it watches nothing more, and is not notified of the records that waited for it.
     pub fn release_observer(&mut self, observer: Observer) -> Result<()> {
         self.handle.release_observer(observer.number()).map_err(Exception::of)
     }

@@ -1,4 +1,4 @@
-//! Owners, which let go of their objects when they are dropped.
+//! Owners, which free their objects when they are dropped.
 use crate::ffi::{Handle, HP_IN_USE};
 use crate::numbers::{Node, NodeIterator, Observer, Range, StaticRange, TreeWalker};
 use crate::session::Session;
@@ -11,7 +11,7 @@ use std::{fmt, mem};
 mod sealed {
     use crate::ffi::Handle;
 
-    /// The call that lets go of an object, and the object's number.
+    /// The call that frees an object, and the object's number.
     #[derive(Clone, Copy)]
     pub struct LetGo {
         pub(super) call: fn(&mut Handle, u32) -> Result<(), u8>,
@@ -49,13 +49,13 @@ objects! {
     Observer: release_observer,
 }
 
-/// The owner of an object: when it is dropped, the object is let go. [`Session::own`] makes one, and `*owner` is the number.
+/// The owner of an object: when it is dropped, the object is freed. [`Session::own`] makes one, and `*owner` is the number.
 ///
-/// What dropped owners had is let go at the session's next command or line, before all else that this does. An owner may be dropped in
-/// another thread, and after its session. Where the object is gone already, nothing happens.
+/// The objects of dropped owners are freed at the session's next command or line, before it does anything else. An owner may be dropped in
+/// another thread, and after its session. If the object is gone already, nothing happens.
 ///
-/// A range, an iterator, a walker or an observer is released. A node is discarded with all below it, unless it has a parent then, or
-/// something that stays refers to one of them: such a node is left alone for good.
+/// A range, an iterator, a walker or an observer is released. A node is discarded with its descendants, unless it has a parent then, or
+/// an object that stays refers to one of them: such a node is left alone for good.
 ///
 /// ```
 /// use huckleport::{Node, Session, SHOW_ALL};
@@ -71,7 +71,7 @@ objects! {
 /// # Ok(())
 /// # }
 /// ```
-#[must_use = "an owner that is not kept lets go at once"]
+#[must_use = "an owner that is not kept frees its object at once"]
 pub struct Owned<T> {
     object: T,
     let_go: Option<LetGo>,
@@ -111,16 +111,16 @@ impl<T: fmt::Debug> fmt::Debug for Owned<T> {
 
 /// Owners.
 impl Session {
-    /// An owner of an object, which lets go of it when it is dropped.
+    /// Makes the owner of an object, which is freed when the owner is dropped.
     pub fn own<T: Object>(&self, object: T) -> Owned<T> {
         Owned { object, let_go: Some(object.let_go()), dropped: Arc::downgrade(&self.handle.dropped) }
     }
 }
 
-/// What dropped owners had, until the session lets go of it.
+/// The objects of dropped owners, until the session frees them.
 #[derive(Default)]
 struct Dropped {
-    /// Whether there is any. It is written by who has the list, so that a session that reads it needs no lock where there is none.
+    /// Whether there are any. It is written under the lock of the list, so that a session reads it without a lock if there are none.
     is_any: AtomicBool,
     list: Mutex<Vec<LetGo>>,
 }
@@ -143,8 +143,8 @@ impl Dropped {
     }
 }
 
-/// The handle of a session, and what its owners dropped. Whatever may change the session reaches the handle by [`DerefMut`], so that what was
-/// dropped is let go before it.
+/// The handle of a session, and the objects of its dropped owners. Every call that may change the session reaches the handle by [`DerefMut`], so that
+/// these objects are freed before it.
 pub(crate) struct OwningHandle {
     handle: Handle,
     dropped: Arc<Dropped>,
@@ -155,7 +155,7 @@ impl OwningHandle {
         Self { handle, dropped: Arc::default() }
     }
 
-    /// Lets go of what was dropped. What is in use is asked for again as long as others go, since these may have referred to it.
+    /// Frees the objects of dropped owners. Those in use are tried again as long as others are freed, since these may have referred to them.
     pub(crate) fn settle(&mut self) {
         if !self.dropped.is_any.load(Ordering::Relaxed) {
             return;
@@ -168,7 +168,7 @@ impl OwningHandle {
         }
     }
 
-    /// The handle with the last answer: what was dropped is let go later.
+    /// Returns the handle with the last answer: the objects of dropped owners are freed later.
     pub(crate) fn unsettled(&mut self) -> &mut Handle {
         &mut self.handle
     }

@@ -12,7 +12,7 @@ use std::borrow::Cow;
 use std::collections::HashMap;
 use std::rc::Rc;
 
-/// What the parser asks of an element, which the core does not keep.
+/// The properties of an element that the parser asks for, and that the core does not keep.
 #[derive(Debug)]
 struct Element {
     name: QualName,
@@ -37,11 +37,11 @@ impl Handle {
     }
 }
 
-/// What makes nodes of a session as a parser of `html5ever` goes.
+/// Makes nodes of a session from the calls of a parser of `html5ever`.
 ///
 /// `html5ever::parse_document(Sink::new(&mut session, document)?, options)` takes a page in pieces, or as bytes; [`parse`] takes it whole.
-/// Names are as they are written in tags, with the prefix of an attribute such as `xlink:href`; what stands in a `template` are its children;
-/// an attribute whose name the core refuses is left out. Where another command is refused, nothing more is made, and the parser's result is that
+/// Names are as they are written in tags, with the prefix of an attribute such as `xlink:href`. The contents of a `template` are its children.
+/// An attribute whose name the core refuses is left out. If another command is refused, nothing more is made, and the parser's result is that
 /// [`Exception`].
 #[derive(Debug)]
 pub struct Sink<'a> {
@@ -76,7 +76,7 @@ impl<'a> Sink<'a> {
         ask(self.session).map_err(|why| self.refused = Some(why)).ok()
     }
 
-    /// A handle to what was made; where that was refused, one that is not used any more.
+    /// Makes a node, and returns a handle to it; if it was refused, a handle that is not used any more.
     fn made(&mut self, make: impl FnOnce(&mut Session, Node) -> Result<Node>) -> Handle {
         let document = self.document;
         Handle::of(self.ask(|session| make(session, document)).unwrap_or(document))
@@ -256,7 +256,7 @@ impl TreeSink for Sink<'_> {
     }
 }
 
-/// Appends all children of a node to another one. Answers the last.
+/// Appends all children of a node to another one. Returns the last.
 fn move_children(session: &mut Session, from: Node, to: Node) -> Result<Option<Node>> {
     let children: Vec<Node> = session.children(from)?.collect();
     for &it in &children {
@@ -265,7 +265,7 @@ fn move_children(session: &mut Session, from: Node, to: Node) -> Result<Option<N
     Ok(children.last().copied())
 }
 
-/// Scripts are not run, so what stands in a `noscript` is parsed.
+/// Returns the options of the parser. Scripts are not run, so the contents of a `noscript` are parsed.
 fn options() -> ParseOpts {
     ParseOpts { tree_builder: TreeBuilderOpts { scripting_enabled: false, ..TreeBuilderOpts::default() }, ..ParseOpts::default() }
 }
@@ -275,7 +275,7 @@ pub fn parse(session: &mut Session, document: Node, page: &str) -> Result<()> {
     parse_document(Sink::new(session, document)?, options()).one(page)
 }
 
-/// Parses a part of a page, as it stands in an element of that name. Answers a DocumentFragment of that document.
+/// Parses a part of a page, as in an element of that name. Returns a DocumentFragment of that document.
 pub fn parse_fragment(session: &mut Session, document: Node, container: &str, part: &str) -> Result<Node> {
     let fragment = session.create_fragment(document)?;
     let mut sink = Sink::new(session, fragment)?;

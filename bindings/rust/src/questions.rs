@@ -45,7 +45,7 @@ impl Kind {
     }
 }
 
-/// Where a node stands, and what it is called.
+/// The neighbours of a node, its kind and its names.
 #[derive(Clone, Copy)]
 pub struct Description<'a> {
     /// The node document.
@@ -90,7 +90,7 @@ impl fmt::Debug for Description<'_> {
     }
 }
 
-/// What a node is, and what stands around it.
+/// The kind of a node, and its neighbours in the tree.
 #[derive(Clone, Copy, Debug, PartialEq, Eq)]
 pub struct Links {
     /// The kind.
@@ -113,9 +113,9 @@ pub struct Links {
     pub length: usize,
 }
 
-/// Questions about a node in constant time, or nearly so. They leave the last answer where it is.
+/// Questions about a node in constant time, or nearly so. The last answer stays.
 impl Session {
-    /// What a node is, and what stands around it.
+    /// Returns the kind of a node, and its neighbours in the tree.
     pub fn links(&self, node: Node) -> Result<Links> {
         let it = self.handle.links(node.number()).map_err(Exception::of)?;
         Ok(Links {
@@ -154,7 +154,7 @@ impl Session {
 
 /// Questions about nodes.
 impl Session {
-    /// Where a node stands, and what it is called.
+    /// Returns the neighbours of a node, its kind and its names.
     pub fn node(&mut self, node: Node) -> Result<Description<'_>> {
         match self.handle.node(node.number()).map_err(Exception::of) {
             Ok(_) | Err(Exception::OutOfMemory) => {}
@@ -178,7 +178,7 @@ impl Session {
         Ok(Nodes::new(Part::whole(&self.handle), count))
     }
 
-    /// How many siblings stand before a node.
+    /// Returns the number of siblings before a node.
     pub fn index(&mut self, node: Node) -> Result<usize> {
         self.handle.index(node.number()).map_err(Exception::of)
     }
@@ -203,7 +203,7 @@ impl Session {
         self.handle.is_equal(node.number(), Node::or_none(other)).map(|it| it != 0).map_err(Exception::of)
     }
 
-    /// Where the second node stands, seen from the first, as the bits of the standard.
+    /// Returns the position of the second node, relative to the first, as the bits of the standard.
     pub fn compare_position(&mut self, node: Node, other: Node) -> Result<u32> {
         self.handle.compare_position(node.number(), other.number()).map_err(Exception::of)
     }

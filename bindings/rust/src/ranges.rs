@@ -62,7 +62,7 @@ impl Session {
         self.handle.select_node(range.number(), node.number()).map_err(Exception::of)
     }
 
-    /// Sets the ends around what a node has.
+    /// Sets the ends around the contents of a node.
     pub fn select_node_contents(&mut self, range: Range, node: Node) -> Result<()> {
         self.handle.select_node_contents(range.number(), node.number()).map_err(Exception::of)
     }

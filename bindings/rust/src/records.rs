@@ -1,10 +1,10 @@
-//! What mutation observers are told.
+//! The records that mutation observers get.
 use crate::answers::{maybe, name, parts, there, Part};
 use crate::ffi::{HP_ATTRIBUTES, HP_CHARACTER_DATA};
 use crate::numbers::{Node, Observer};
 use std::fmt;
 
-/// What a record tells of.
+/// The kind of a change in a record.
 #[derive(Clone, Copy, Debug, PartialEq, Eq, Hash)]
 pub enum RecordType {
     /// An attribute.
@@ -37,13 +37,13 @@ impl RecordType {
 /// A record of a change.
 #[derive(Clone, Copy)]
 pub struct Record<'a> {
-    /// What it tells of.
+    /// The kind of the change.
     pub record_type: RecordType,
     /// The node that changed.
     pub target: Node,
-    /// The sibling before what came and went.
+    /// The sibling before the added and removed nodes.
     pub previous: Option<Node>,
-    /// The sibling after what came and went.
+    /// The sibling after the added and removed nodes.
     pub next: Option<Node>,
     added: usize,
     removed: usize,
@@ -160,7 +160,7 @@ impl fmt::Debug for RecordNodes<'_> {
     }
 }
 
-/// An observer and the records that it is told.
+/// An observer and the records that it gets.
 #[derive(Clone, Copy)]
 pub struct Notice<'a> {
     /// The observer.
@@ -193,6 +193,6 @@ parts! {
 }
 
 parts! {
-    /// What each observer is told.
+    /// The notices, one for each observer.
     Notices, Notice<'a>, Notice::read
 }

@@ -44,7 +44,7 @@ impl Session {
         Session::with_limits(u32::MAX, LINE)
     }
 
-    /// A session in which each kind of object has so many numbers, and a line so many bytes; both are at least 1.
+    /// Opens a session that has `numbers` numbers for each kind of object, and takes at most `line` bytes in a line. Both are at least 1.
     pub fn with_limits(numbers: u32, line: usize) -> Result<Session> {
         match Handle::open(numbers.into(), line) {
             Ok(handle) => Ok(Session { handle: OwningHandle::new(handle) }),
@@ -52,9 +52,9 @@ impl Session {
         }
     }
 
-    /// Answers a line of JSON, which has no newline, by the line of its reply, with its newline.
+    /// Runs a line of JSON, which has no newline, and returns the line of its reply, with its newline.
     ///
-    /// What the reply tells, also that a command was refused, stands in that line.
+    /// If the command was refused, the reply says so.
     ///
     /// ```
     /// # fn main() -> Result<(), huckleport::Exception> {
@@ -81,7 +81,7 @@ impl Session {
         }
     }
 
-    /// Whether the session has ended, since an edit was refused memory. It can then be read and serialized; what changes it answers
+    /// Returns whether the session has ended, since an edit was refused memory. It can then be read and serialized; commands that change it return
     /// [`Exception::OutOfMemory`].
     ///
     /// ```
@@ -94,8 +94,8 @@ impl Session {
         self.handle.has_ended()
     }
 
-    /// How many objects of each kind the session has, in constant time. The last answer stays where it is, unless an [`Owned`](crate::Owned) was
-    /// dropped since: what that had is let go first.
+    /// Returns how many objects of each kind the session has, in constant time. The last answer stays, unless an [`Owned`](crate::Owned) was
+    /// dropped since: its object is freed first.
     ///
     /// ```
     /// # fn main() -> Result<(), huckleport::Exception> {
@@ -123,7 +123,7 @@ impl Session {
         })
     }
 
-    /// The text of the last answer; none where it is null.
+    /// Returns the text of the last answer; none if it is null.
     pub(crate) fn text(&self) -> Result<Option<&[u16]>> {
         match self.handle.text() {
             Ok(text) => Ok(Some(text)),

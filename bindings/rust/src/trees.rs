@@ -60,7 +60,7 @@ impl Session {
         self.handle.normalize(node.number()).map_err(Exception::of)
     }
 
-    /// Puts a text in place of what a node has. Null is the empty text.
+    /// Replaces the contents of a node by a text. Null is the empty text.
     pub fn set_text_content(&mut self, node: Node, text: &[u16]) -> Result<()> {
         self.handle.set_text_content(node.number(), text).map_err(Exception::of)
     }

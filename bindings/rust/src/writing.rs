@@ -1,4 +1,4 @@
-//! What writing HTML and XML has in common: rows of a tree are written one after the other, and what is open is closed in time.
+//! Shared by the writers of HTML and XML: rows of a tree are written one after the other, and open elements are closed in time.
 use crate::exception::{Exception, Result};
 use crate::numbers::Node;
 use crate::questions::Kind;
@@ -7,21 +7,21 @@ use crate::session::Session;
 
 /// How the nodes of one language are written.
 pub(crate) trait Markup {
-    /// Writes the start tag of an element. Answers whether what is below it and an end tag are to follow.
+    /// Writes the start tag of an element. Returns whether its contents and an end tag are to follow.
     fn start(&self, element: &Row<'_>, is_empty: bool, to: &mut String) -> Result<bool>;
 
-    /// Writes a text that stands in an element of that name, or in none.
+    /// Writes a text that is in an element of that name, or in none.
     fn text(&self, data: &[u16], parent: Option<&str>, to: &mut String) -> Result<()>;
 
     /// Writes a node that is neither an element nor a text.
     fn other(&self, node: &Row<'_>, to: &mut String) -> Result<()>;
 }
 
-/// Elements that were opened, from the outermost on: how deep each stands, and its name.
+/// Elements that were opened, from the outermost on: the depth of each, and its name.
 struct Open<'a>(Vec<(usize, &'a str)>);
 
 impl Open<'_> {
-    /// Ends each element that does not stand above this depth.
+    /// Ends each element that is not above this depth.
     fn end(&mut self, depth: usize, to: &mut String) {
         let stays = self.0.iter().rposition(|it| it.0 < depth).map_or(0, |at| at + 1);
         for (_, name) in self.0.drain(stays..).rev() {
@@ -30,10 +30,10 @@ impl Open<'_> {
     }
 }
 
-/// Writes rows, of which the first ones stand in an element of that name, or in none.
+/// Writes rows. The outermost ones are in an element of that name, or in none.
 fn write<'a>(rows: impl Iterator<Item = Row<'a>>, parent: Option<&str>, markup: &impl Markup) -> Result<String> {
     let (mut to, mut open, mut rows) = (String::new(), Open(Vec::new()), rows.peekable());
-    // What stands deeper than this is not written.
+    // Rows deeper than this are not written.
     let mut shown = usize::MAX;
     while let Some(row) = rows.next() {
         if row.depth > shown {
@@ -58,7 +58,7 @@ fn write<'a>(rows: impl Iterator<Item = Row<'a>>, parent: Option<&str>, markup: 
     Ok(to)
 }
 
-/// The name of the element that a node stands in, if any.
+/// Returns the name of the element that a node is in, if any.
 fn name_of_parent(session: &mut Session, node: Node) -> Result<Option<String>> {
     let parent = match session.node(node)?.parent {
         Some(parent) => parent,
@@ -95,7 +95,7 @@ fn held_rows(session: &Session, root: Node) -> Result<Vec<Row<'_>>> {
     Ok(found)
 }
 
-/// A node and all below it.
+/// Writes a node and its descendants.
 pub(crate) fn whole(session: &mut Session, node: Node, markup: &impl Markup) -> Result<String> {
     let parent = name_of_parent(session, node)?;
     if session.has_ended() {
@@ -104,7 +104,7 @@ pub(crate) fn whole(session: &mut Session, node: Node, markup: &impl Markup) -> 
     write(session.tree(node)?, parent.as_deref(), markup)
 }
 
-/// What is below a node.
+/// Writes the descendants of a node.
 pub(crate) fn inside(session: &mut Session, node: Node, markup: &impl Markup) -> Result<String> {
     if session.has_ended() {
         let mut rows = held_rows(session, node)?.into_iter();

@@ -148,16 +148,16 @@ fn lacks_element(session: &Session, node: Node) -> Result<bool> {
     Ok(links.kind == Kind::Document)
 }
 
-/// A node and all below it as XML. A Document and a DocumentFragment are what is below them.
+/// Writes a node and its descendants as XML. For a Document or a DocumentFragment these are its descendants alone.
 ///
-/// What no XML can hold is [`Exception::InvalidStateError`], as the rules have it: a Document without an element, a surrogate that stands alone, a
-/// comment with two strokes, a name that XML does not have.
+/// Fails by the rules with [`Exception::InvalidStateError`] if no XML can have the node: a Document without an element, a lone surrogate, a
+/// comment with two hyphens, a name that XML does not have.
 pub fn serialize(session: &mut Session, node: Node) -> Result<String> {
     must(!lacks_element(session, node)?)?;
     whole(session, node, &Xml)
 }
 
-/// What is below a node as XML, refused as [`serialize`] is.
+/// Writes the descendants of a node as XML, refused as [`serialize`] is.
 pub fn serialize_children(session: &mut Session, node: Node) -> Result<String> {
     inside(session, node, &Xml)
 }

@@ -1,4 +1,4 @@
-//! A session that has ended, since memory was wanting: it is read and serialized, what changes it is refused, and another lives.
+//! A session that has ended out of memory: it is read and serialized, commands that change it are refused, and another session goes on.
 #![cfg(all(target_os = "linux", target_pointer_width = "64"))]
 use huckleport::{html, utf16, xml, Exception, Node, Session};
 
@@ -59,7 +59,7 @@ fn built(session: &mut Session) -> Result<(Node, Node), Exception> {
     Ok((root, text))
 }
 
-/// What is read of a session, as text.
+/// Reads a session, as text.
 fn read(session: &mut Session, root: Node, text: Node) -> Result<String, Exception> {
     let mut to = html::serialize(session, Node::DOCUMENT)? + &html::serialize_children(session, root)? + &html::serialize(session, text)?;
     to += &xml::serialize(session, Node::DOCUMENT)?;

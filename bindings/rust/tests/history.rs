@@ -16,7 +16,7 @@ type Row = (usize, Node, String, Vec<(String, Vec<u16>)>, Vec<u16>);
 
 type Seen = (Vec<Row>, Vec<Ends>);
 
-/// All that can be told of a tree and of ranges.
+/// Returns the whole state of a tree and of ranges.
 fn seen(session: &mut Session, ranges: &[Range]) -> Result<Seen> {
     let rows = session.tree(Node::DOCUMENT)?.map(|it| {
         let attributes = it.attributes().map(|(name, value)| (name.to_owned(), value.to_vec())).collect();

@@ -1,4 +1,5 @@
-//! What dialogues do not show: commands that they only refuse, texts that are not well-formed, limits, threads, iterators from both ends, what is released.
+//! Cases that dialogues do not show: commands that they only refuse, texts that are not well-formed, limits, threads, iterators from both ends, and
+//! released objects.
 use huckleport::{utf16, BoundaryPoint, Counts, Ends, Exception, Kind, Move, Node, Observer, Options, Result, Session, SHOW_ALL};
 use std::thread;
 
@@ -187,8 +188,8 @@ fn an_observer_that_is_released_is_told_nothing() -> Result<()> {
     Ok(())
 }
 
-/// How many records each of three observers has in its turn; none where it was released. They observe an element of which a Text was taken out.
-/// After the first one's turn something is done with that element, the Text and the observers.
+/// Returns how many records each of three observers gets in its turn; none if it was released. They observe an element, and a Text of it was removed.
+/// After the first observer's turn `does` is called with that element, the Text and the observers.
 fn told_in_turn(does: impl FnOnce(&mut Session, [Node; 2], [Observer; 3]) -> Result<()>) -> Result<Vec<Option<usize>>> {
     let (mut session, parent, [a, ..]) = session()?;
     let observers = [session.create_observer()?, session.create_observer()?, session.create_observer()?];
@@ -257,7 +258,7 @@ fn what_is_taken_out_is_watched_by_each_observer_until_its_turn() -> Result<()> 
     Ok(())
 }
 
-/// Makes and releases so many of each kind, one after another.
+/// Makes and releases `count` objects of each kind, one after another.
 #[cfg(target_os = "linux")]
 fn come_and_go(session: &mut Session, count: usize) -> Result<()> {
     let options = Options { child_list: Some(true), ..Options::default() };

@@ -1,4 +1,4 @@
-//! What owners let go of, and when.
+//! The objects that owners free, and when.
 use huckleport::{Counts, Exception, History, Node, Object, Options, Owned, Result, Session, SHOW_ALL};
 use std::thread;
 
@@ -15,7 +15,7 @@ const CHILDREN: Options<'static> = Options {
     attribute_filter: None,
 };
 
-/// What a session has at first: its Document.
+/// The counts of a new session: its Document.
 const FIRST: Counts = Counts { nodes: 1, ranges: 0, static_ranges: 0, iterators: 0, walkers: 0, observers: 0, registrations: 0 };
 
 /// Owners of one object of each kind; all but the fragment name it.

@@ -1,4 +1,4 @@
-//! HTML and XML as the serialization rules write them. What is due is written down from these rules, and from what browsers are tested for.
+//! HTML and XML as the serialization rules write them. The expected texts are written down from these rules, and from the tests of browsers.
 use huckleport::{html, utf16, xml, Exception, Node, Result, Session};
 
 /// A session with an element that has these children.

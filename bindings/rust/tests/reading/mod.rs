@@ -8,7 +8,7 @@ use huckleport::Session;
 use std::fs;
 use std::path::{Path, PathBuf};
 
-/// A dialogue: the bytes that come in, and those that are due.
+/// A dialogue: the bytes of its input, and the expected ones of its output.
 pub struct Dialogue {
     pub name: String,
     given: Vec<u8>,
@@ -41,14 +41,14 @@ impl Dialogue {
         Session::with_limits(numbers.try_into().unwrap(), line.try_into().unwrap()).expect("there is memory")
     }
 
-    /// The lines that come in: pieces between newlines, the last only where it is not empty.
+    /// Returns the lines of the input: pieces between newlines, the last only if it is not empty.
     pub fn lines(&self) -> impl Iterator<Item = &[u8]> {
         let whole = self.given.strip_suffix(b"\n").unwrap_or(&self.given);
         let count = if self.given.is_empty() { 0 } else { usize::MAX };
         whole.split(|it| *it == b'\n').take(count)
     }
 
-    /// The lines that are due, with their newlines.
+    /// Returns the expected lines, with their newlines.
     pub fn replies(&self) -> impl Iterator<Item = &[u8]> {
         self.due.split_inclusive(|it| *it == b'\n')
     }

@@ -1,4 +1,4 @@
-//! What is parsed into a session is what the parser's own tree has, and what is written is what the parser's own serializer writes of that.
+//! A page is parsed into the same tree as the parser's own, and written as the parser's own serializer writes that.
 use html5ever::interface::{Attribute, QualName};
 use html5ever::tendril::TendrilSink;
 use html5ever::tree_builder::TreeBuilderOpts;
@@ -8,7 +8,7 @@ use markup5ever_rcdom::{Handle, NodeData, RcDom, SerializableHandle};
 use std::fs;
 use std::process::Command;
 
-/// A node: how deep it stands, its kind, its name with the ids of a doctype, its data and its attributes.
+/// A node: its depth, its kind, its name with the ids of a doctype, its data and its attributes.
 type Row = (usize, Kind, [String; 3], String, Vec<(String, String)>);
 
 fn ours(session: &mut Session, node: Node) -> Vec<Row> {
@@ -41,7 +41,7 @@ fn held(mut rows: Vec<Row>) -> Vec<Row> {
     rows
 }
 
-/// The row of a node of the parser's, and what stands below that node.
+/// Returns the row of a node of the parser's, and the children of that node.
 fn row(node: &Handle, depth: usize) -> (Row, Vec<Handle>) {
     let of = |kind, names: [&str; 3], data: &str| (depth, kind, names.map(str::to_owned), data.to_owned(), Vec::new());
     let mut below = node.children.borrow().clone();
@@ -59,7 +59,7 @@ fn row(node: &Handle, depth: usize) -> (Row, Vec<Handle>) {
     (found, below)
 }
 
-/// What is below a node of the parser's. (A loop: some pages are deep.)
+/// Returns the rows below a node of the parser's. (A loop: some pages are deep.)
 fn theirs(node: &Handle) -> Vec<Row> {
     let mut found = Vec::new();
     let mut left = vec![(node.clone(), 0)];
@@ -79,7 +79,7 @@ fn their_page(page: &str) -> RcDom {
     html5ever::parse_document(RcDom::default(), options()).one(page)
 }
 
-/// What the parser has of a part, which it stands in an element of its own.
+/// Returns the parser's rows of a part, which it puts into an element of its own.
 fn their_part(container: &str, part: &str) -> Vec<Row> {
     let name = QualName::new(None, ns!(html), LocalName::from(container));
     let dom = html5ever::parse_fragment(RcDom::default(), options(), name, Vec::new()).one(part);
@@ -93,7 +93,7 @@ fn our_page(page: &str) -> Session {
     session
 }
 
-/// What the parser's own serializer writes.
+/// Returns the text of the parser's own serializer.
 fn their_text(dom: RcDom) -> String {
     let mut written = Vec::new();
     let options = html5ever::serialize::SerializeOpts { scripting_enabled: false, ..Default::default() };
