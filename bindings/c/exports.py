@@ -12,12 +12,12 @@ SOURCES = os.path.join(ROOT, "crates/dom_c/src")
 
 # The modules in the order in which a header is read. Others come behind them.
 ORDER = (
-    "status version opening lines lending parts labels rows notices records telling places making editing copying asking nearby holding counting texts attributes "
-    "ranges points statics contents traversing observing"
+    "status version open_close lines borrowed_text reply_items labels rows notices records write_numbers positions node_creation tree_edits copies "
+    "node_queries neighbours borrowed_data counts character_data attributes live_ranges range_queries static_ranges range_contents traversal observers"
 ).split()
 
 # The modules whose calls read or lend, and leave all that the session keeps.
-READING = set("lending parts labels rows notices records nearby holding counting".split())
+READING = set("borrowed_text reply_items labels rows notices records neighbours borrowed_data counts".split())
 
 SCALARS = {
     "u8": "uint8_t",
@@ -37,8 +37,9 @@ KEYWORDS = set(
     "static struct switch template this throw true try typedef typename union unsigned using virtual void volatile while".split()
 )
 
-# The handle has a name of its own in C.
+# Structs that have a name of their own in C, the handle among them.
 HANDLE = "Handle"
+OF_C = {HANDLE: "hp_session", "SessionSlot": "hp_slot", "NodePosition": "hp_place"}
 
 Module = namedtuple("Module", "name doc exports structs constants")
 # kind: session, scalar, slice, in (a struct that is read), out (a number or struct that is written), array (of those, which is written into)
@@ -100,7 +101,7 @@ class Reader:
 
     def c_name(self, path, name):
         """The name of a struct in C. Where a call has it, the struct is a view of what that call lends."""
-        found = "hp_session" if name == HANDLE else "hp_" + snake(name)
+        found = OF_C.get(name, "hp_" + snake(name))
         found = found + "_view" if found in self.calls else found
         if found in self.calls or found in self.names.values():
             refuse(path, f"struct {name}, whose name is taken")

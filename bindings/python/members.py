@@ -21,7 +21,8 @@ LET_GO_FIRST = set(
 
 # Calls that move no node of a tree, by the modules of their exports and by their names. All others may.
 STILL_MODULES = set(
-    "version lending parts labels rows notices records making copying asking nearby holding counting attributes ranges points statics traversing observing".split()
+    "version borrowed_text reply_items labels rows notices records node_creation copies node_queries neighbours borrowed_data counts attributes live_ranges "
+    "range_queries static_ranges traversal observers".split()
 )
 STILL = set("print reply_line data set_data append_data insert_data delete_data replace_data substring_data range_text clone_contents".split())
 
