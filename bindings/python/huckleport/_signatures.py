@@ -69,7 +69,7 @@ MEANINGS = {
     HP_NO_SUCH_OBJECT: "There is no object of that number.",
     HP_LIMIT: "There is no number left for a new object.",
     HP_IN_USE: "Something still refers to a node that was to be discarded.",
-    HP_OUT_OF_MEMORY: "Out of memory, now or at an earlier call: the session has ended. It takes no command, and its nodes can still be read.",
+    HP_OUT_OF_MEMORY: "Out of memory. Either nothing has changed and the session goes on, or it has ended, now or at an earlier call: it takes no command, and its nodes can still be read.",
     HP_CLOSED: "The handle is closed.",
     HP_ALREADY_OPEN: "The handle is open already.",
     HP_BAD_LIMITS: "The limits of a session are out of their range.",
@@ -77,7 +77,7 @@ MEANINGS = {
     HP_BAD_LENGTHS: "Lengths do not fit the bytes or units that they measure.",
     HP_BAD_CHOICE: "A number stands for none of the choices.",
     HP_NOT_THERE: "The last answer, or the node, has no such part.",
-    HP_ENDED: "The session has ended, as it was out of memory once. The answer is from the world it still holds.",
+    HP_ENDED: "The session has ended, as an edit was out of memory once. The answer is from the world it still holds.",
 }
 
 
