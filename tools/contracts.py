@@ -1,8 +1,4 @@
-"""The contracts of a crate's functions as pages quote them: the head on one line, and a line for each clause.
-
-Of a method `S` stands for what `self` points to at the call, and `S'` for what it points to at the return; all else is as in the source. Of a trait the
-head is quoted, and a line for each ghost that it asks for.
-"""
+"""The contracts of a crate's functions: the head on one line, and a line for each clause, as in the source."""
 import glob
 import os
 import re
@@ -10,22 +6,12 @@ import re
 import edit_files
 
 CLAUSE = re.compile(r"\s*(requires|ensures)(?: (\w+))? \{ ?(.*)")
-TRAIT = re.compile(r"^pub (trait (\w+)[^\n]*) \{\n(.*?)^\}", re.M | re.S)
-GHOST = re.compile(r"^ +(ghost \w+): \{ (.*) \};", re.M)
-SHORT = (("self.old", "S"), ("self.now", "S"), ("self.new", "S'"))
 
 
 def on_one_line(lines):
     """Lines of a source as one, without what only a layout on several lines has."""
     text = " ".join(it.strip() for it in lines)
     return re.sub(r"[,;] (?=[)}])|(?<=\()[ ]", lambda found: " " if found[0] == "; " else "", text)
-
-
-def shortened(text):
-    """A clause in the words of the pages."""
-    for old, new in SHORT:
-        text = re.sub(rf"\b{re.escape(old)}\b", new, text)
-    return text
 
 
 def lines_of(lines, first):
@@ -45,7 +31,7 @@ def lines_of(lines, first):
 
 
 def contract(lines, owner):
-    """The lines that a page has for a function."""
+    """Returns the lines of the contract of a function."""
     head, clauses = [], []
     for line in lines_of(lines, owner.line):
         found = CLAUSE.match(line)
@@ -56,16 +42,11 @@ def contract(lines, owner):
             (clauses[-1][1] if clauses else head).append(line)
     path = edit_files.joined(owner.of_type, owner.name)
     title = re.sub(r"^.*?\bfn \w+", f"fn {path}", on_one_line(head))
-    return [title, *(f"  {name}: {shortened(on_one_line(text).strip().removesuffix('}').rstrip())}" for name, text in clauses)]
-
-
-def traits(text):
-    """The lines that a page has for each trait, by its name."""
-    return {name: [head, *(f"  {ghost}: {form}" for ghost, form in GHOST.findall(body))] for head, name, body in TRAIT.findall(text)}
+    return [title, *(f"  {name}: {on_one_line(text).strip().removesuffix('}').rstrip()}" for name, text in clauses)]
 
 
 def contracts_of(folder):
-    """The lines that a page has for each function and trait of a crate, by how it begins: `fn Tree::make`, `trait Cell`. A public one comes before others."""
+    """Returns the contract of each function of a crate, by `fn` and its name: `fn Tree::make`. A public function is preferred to others of its name."""
     found = {}
     for path in sorted(glob.glob(f"{folder}/src/**/*.rt", recursive=True)):
         text = edit_files.read_file(path)
@@ -75,5 +56,4 @@ def contracts_of(folder):
             name = f"fn {edit_files.joined(it.of_type, it.name)}"
             if name not in found or lines[it.line].lstrip().startswith("pub fn "):
                 found[name] = contract(lines, it)
-        found.update({f"trait {name}": its for name, its in traits(text).items()})
     return found

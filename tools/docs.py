@@ -23,7 +23,7 @@ PARTS = {
     "links": (links, "links, files and names on pages"),
     "commands": (commands, "docs/commands.json, made from the definitions and docs/commands.md"),
     "clauses": (clauses, "the homes of clauses' words, and the reading order of definitions"),
-    "quoted": (quoted, "code and contracts on pages, from the sources"),
+    "quoted": (quoted, "code and tables of calls on pages, from the sources"),
     "promises": (promises, "calls and clauses in the tables of docs/proved.md"),
     "charts": (charts, "charts and repeated figures, from the tables of docs/costs.md"),
     "words": (words, "the rules of docs/writing.md"),

@@ -5,7 +5,7 @@
   `*` match any word. Files in a folder `out` or `build` are made by runs, so they are not checked.
 - A name in backticks is a word of some file beside the documents. A plain word in small letters may be another program's; it is checked only on the pages
   about definitions, clauses and commands.
-- docs/definitions.md names each file of definitions and of laws of dom_model.
+- docs/definitions.md names each file of definitions of dom_model once, ahead of the laws of a section, and each file of laws.
 """
 
 import glob
@@ -120,11 +120,22 @@ def unknown_quote(quoted, page, known, lacking):
     return f"no file has the word {', '.join(unknown)} of {quoted}" if unknown else None
 
 
-def unnamed(paths):
-    """Returns the files of definitions and of laws that the index does not name."""
-    named = {it.rpartition("/")[2] for it in re.findall(r"`([\w/]+)`", text_of(INDEX))}
-    theirs = [it for it in paths if re.match(f"{MODEL}/(specs|proofs)/.", it) and it.endswith(".antt") and not it.startswith(WRITTEN)]
-    return [it for it in theirs if os.path.splitext(os.path.basename(it))[0] not in {*named, "Lib"}]
+def of_definitions(text):
+    """Returns the parts of the index that are about definitions: each section up to its laws."""
+    parts = re.split(r"(?m)^#+ (.*)$", text)
+    return "".join(re.split(r"(?m)^Laws\b", body)[0] for title, body in zip(parts[1::2], parts[2::2]) if "Laws" not in title)
+
+
+def faults_of_index(text, paths):
+    """Yields each file of definitions that the index does not name exactly once, and each file of laws that it does not name."""
+    names_of = lambda part: [it.rpartition("/")[2] for it in re.findall(r"`([\w/]+)`", part)]
+    named, defined = {*names_of(text), "Lib"}, names_of(of_definitions(text))
+    for it in (it for it in paths if it.endswith(".antt") and not it.startswith(WRITTEN)):
+        name = os.path.splitext(os.path.basename(it))[0]
+        if re.match(f"{MODEL}/specs/\\w+/", it) and defined.count(name) != 1:
+            yield f"{INDEX}: it names {it} {defined.count(name)} times ahead of laws, and has to name it once"
+        elif re.match(f"{MODEL}/(specs|proofs)/", it) and name not in named:
+            yield f"{INDEX}: it does not name {it}"
 
 
 def not_found(names, paths):
@@ -157,5 +168,5 @@ def check():
     names = {name for page in pages() for it in quotes(page) for name in names_in(it, page)}
     lacking = not_found(names - known, paths)
     faults = [it for page in pages() for it in wrongs(page, known, lacking)]
-    faults += [f"{INDEX}: it does not name {it}" for it in unnamed(paths)]
+    faults += faults_of_index(text_of(INDEX), paths)
     return faults, f"{len(pages())} pages: each file, heading and name to which they point is there"

@@ -44,8 +44,8 @@ CRATES = {
     "store_cases": (),
     "tree_cases": (),
     "range_cases": (),
-    "observer_cases": ("watching",),
-    "edit_cases": ("attributes", "cloning", "contents", "editing", "texts", "wrapping"),
+    "observer_cases": ("out_of_memory",),
+    "edit_cases": ("attributes", "clones", "contents", "range_insertion", "texts", "tree_edits"),
     "stream_cases": (),
 }
 WITHOUT = "_without_a_growth"
@@ -53,8 +53,8 @@ WITHOUT = "_without_a_growth"
 STAND = {
     ("store_cases", "links::a_refused_add_hands_the_value_back"): 1000,
     ("range_cases", "ranges::refused_room"): 1,
-    ("store_cases", "slotted::refused_room"): 10,
-    ("observer_cases", "observing::a_hundred_nodes"): 100,
+    ("store_cases", "numbered_items::refused_room"): 10,
+    ("observer_cases", "registrations::a_hundred_nodes"): 100,
 }
 # Tests of several scenes, of which each growth is refused: so each scene meets its own.
 SCENES = {
@@ -321,9 +321,10 @@ def works(given, library):
     every = [it for crate in given.crate for it in tests_of(crate, library)] if {"store", "tests"} & {*given.parts} else []
     if "store" in given.parts:
         stands = [it for it in every if it.name.endswith(WITHOUT) or (it.crate, it.name) in STAND]
-        lacking = {it for it in (*STAND, *SCENES) if it[0] in given.crate} - {(it.crate, it.name) for it in every}
+        due = {*STAND, *SCENES, *((crate, module) for crate, modules in CRATES.items() for module in modules)}
+        lacking = {it for it in due if it[0] in given.crate} - {(it.crate, name) for it in every for name in (it.name, it.name.partition("::")[0])}
         if lacking:
-            sys.exit(f"{' has no test '.join(min(lacking))}")
+            sys.exit(f"{' has no test or module '.join(min(lacking))}")
         yield from (("store", it, sys.maxsize) for it in stands)
     if "tests" in given.parts:
         yield from (("tests", it, most_of(given, "tests")) for it in every)

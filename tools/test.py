@@ -23,7 +23,6 @@ sys.path.insert(0, HERE)
 import beside
 import charts
 import commands
-import contracts
 import docs
 import gate
 import gathered
@@ -196,6 +195,13 @@ class Pages(unittest.TestCase):
                 found = [*words.faults_of_page("page.md"), *links.wrongs("page.md", set(), set())]
         self.assertEqual([it.partition(" ")[0] for it in found], ["page.md:8:", "page.md:10:", "page.md:8:"])
 
+    def test_the_index_names_each_file_of_definitions_once(self):
+        page = "# A\n\n## 1. One: `One`\n\n`Here`, `Twice`: `One/Twice`.\n\nLaws: `Here`, `Law`.\n\n## 2. Laws: `Two`\n\n`Late`, `Here`.\n"
+        paths = [f"{links.MODEL}/{it}.antt" for it in ("specs/One/Here", "specs/One/Twice", "specs/Two/Late", "specs/One", "proofs/One/Law", "proofs/Two/None")]
+        found = [it.partition(links.MODEL)[2] for it in links.faults_of_index(page, paths)]
+        due = ["/specs/One/Twice.antt 2 times", "/specs/Two/Late.antt 0 times", "/proofs/Two/None.antt"]
+        self.assertEqual([it.partition(" ahead")[0] for it in found], due)
+
     def test_the_picture_of_the_layers_has_each_crate_and_its_words(self):
         self.assertEqual(layers.check()[0], [])
         with mock.patch.dict(layers.SAYS, {"dom_c": "other words"}):
@@ -314,16 +320,33 @@ class Commands(unittest.TestCase):
 
 
 class Quoted(unittest.TestCase):
-    def test_a_changed_clause_is_told_and_written(self):
-        page = "crates/dom_units/CALLING.md"
-        text, known = quoted.texts(page)[page], contracts.contracts_of(os.path.join(quoted.ROOT, os.path.dirname(page)))
-        self.assertEqual(quoted.wrong_contracts(page, text, known), [])
-        clause = "  requires enough: count ≤ length S - at\n"
-        for new in ("", clause + clause, clause.replace("≤", "<")):
-            changed = text.replace(clause, new, 1)
-            self.assertIn("fn Units::slice has other clauses", "\n".join(quoted.wrong_contracts(page, changed, known)))
-            self.assertEqual(quoted.with_contracts(changed, known), text)
-        self.assertIn("the crate has no fn Units::cut", "\n".join(quoted.wrong_contracts(page, text.replace("fn Units::slice(", "fn Units::cut("), known)))
+    """The code and the tables of calls on the pages CALLING.md."""
+
+    PAGE = "crates/dom_units/CALLING.md"
+
+    def faults(self, text):
+        return "\n".join(quoted.wrongs(self.PAGE, text, quoted.texts(quoted.CALLERS)))
+
+    def test_a_changed_table_is_reported_and_written(self):
+        text = quoted.texts(self.PAGE)[self.PAGE]
+        self.assertEqual(self.faults(text), "")
+        for old, new in (("`slice`, ", ""), ("`slice`, ", "`slice`, `cut`, "), ("(src/lib.rt)", "(src/shift.rt)"), (quoted.HEAD, "")):
+            with self.subTest(new):
+                changed = text.replace(old, new, 1)
+                self.assertIn("its table of calls is out of date", self.faults(changed))
+                self.assertEqual(quoted.with_table(self.PAGE, changed), text)
+        self.assertIn("it needs one line <!-- made by tools/docs.py -->", self.faults(text.replace(quoted.MARK, "")))
+
+    def test_a_changed_caller_is_reported(self):
+        text = quoted.texts(self.PAGE)[self.PAGE]
+        self.assertIn("no file of crates/uses/src has the block", self.faults(text.replace("units.splice(0, 0, ", "units.splice(0, 1, ")))
+
+    def test_calls_are_those_that_others_can_make(self):
+        calls = lambda crate, file: quoted.calls_in(f"{quoted.ROOT}/crates/{crate}", file, quoted.offered(f"{quoted.ROOT}/crates/{crate}"))
+        self.assertEqual(calls("dom_observe", "src/roster.rt"), [])
+        self.assertEqual(calls("dom_pages", "src/cell.rt"), [("Cell", "vacant"), ("Cell", "of"), ("Cell", "item")])
+        self.assertEqual(calls("dom_observe", "src/options.rt"), [("", "resolve_options"), ("Options", "try_clone")])
+        self.assertIn(("laws", "observers_apart"), calls("dom_session", "src/laws.rt"))
 
 
 class Promises(unittest.TestCase):

@@ -18,6 +18,7 @@ COVERED = (
     "CONTRIBUTING.md",
     "README.md",
     "SECURITY.md",
+    "crates/*/CALLING.md",
     "crates/*/README.md",
     "crates/*/src/**/*.rt",
     "docs/*.md",
