@@ -39,7 +39,7 @@ KEYWORDS = set(
 
 # Structs that have a name of their own in C, the handle among them.
 HANDLE = "Handle"
-OF_C = {HANDLE: "hp_session", "SessionSlot": "hp_slot", "NodePosition": "hp_place"}
+NAMED = {HANDLE: "hp_session", "NodePosition": "hp_place", "SessionSlot": "hp_slot"}
 
 Module = namedtuple("Module", "name doc exports structs constants")
 # kind: session, scalar, slice, in (a struct that is read), out (a number or struct that is written), array (of those, which is written into)
@@ -101,7 +101,7 @@ class Reader:
 
     def c_name(self, path, name):
         """The name of a struct in C. Where a call has it, the struct is a view of what that call lends."""
-        found = OF_C.get(name, "hp_" + snake(name))
+        found = NAMED.get(name, "hp_" + snake(name))
         found = found + "_view" if found in self.calls else found
         if found in self.calls or found in self.names.values():
             refuse(path, f"struct {name}, whose name is taken")
@@ -199,7 +199,7 @@ class Reader:
 
 
 def modules(folder=SOURCES):
-    """What each module of the crate offers to C."""
+    """Returns the exports, structs and constants of each module of the crate."""
     if not os.path.isdir(folder):
         sys.exit(f"{folder}: there are no exports here")
     return Reader(folder).modules()

@@ -12,7 +12,7 @@ READS = {
     "get_attribute": "text?",
 }
 
-# Calls that begin by letting go of what nobody holds any more: those that make something, and those that take out nodes.
+# Calls that begin by freeing the things that nobody holds any more: those that make something, and those that remove nodes.
 LET_GO_FIRST = set(
     "new_document create_element create_text create_comment create_pi create_doctype create_fragment import_node clone_node split_text"
     " create_range clone_range create_static_range create_iterator create_walker create_observer extract_contents clone_contents"
@@ -21,8 +21,10 @@ LET_GO_FIRST = set(
 
 # Calls that move no node of a tree, by the modules of their exports and by their names. All others may.
 STILL_MODULES = set(
-    "version borrowed_text reply_items labels rows notices records node_creation copies node_queries neighbours borrowed_data counts attributes live_ranges "
-    "range_queries static_ranges traversal observers".split()
+    (
+        "version borrowed_text reply_items labels rows notices records node_creation copies node_queries neighbours borrowed_data counts attributes live_ranges "
+        "range_queries static_ranges traversal observers"
+    ).split()
 )
 STILL = set("print reply_line data set_data append_data insert_data delete_data replace_data substring_data range_text clone_contents".split())
 
