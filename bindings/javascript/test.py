@@ -1,7 +1,7 @@
 #!/usr/bin/env python3
 """Puts the module beside the package and runs the package's tests; says what it leaves out where node, the module or a package is missing.
 
-With --calls it does another thing: it makes so many random calls, by which objects and core are compared; 300,000 take minutes.
+With --calls it runs no test. It makes that number of random calls instead, which compare objects and core; 300,000 take minutes.
 """
 import argparse
 import glob
@@ -38,7 +38,7 @@ OLDEST = 20
 # How many random calls are made among the tests.
 FEW_CALLS = 15000
 
-# What is run by node: what it is, node's options, and the files.
+# The parts that node runs: their names, node's options, and the files.
 PARTS = (
     ("the tests of the package", ["--expose-gc"], "tests/*.test.js"),
     ("the tests of the page", ["--expose-gc", "--experimental-websocket"], "tests/page/*.test.js"),
@@ -94,7 +94,7 @@ def random_calls(count):
 
 def main():
     parser = words_of(__doc__)
-    parser.add_argument("--calls", type=int, metavar="COUNT", help="makes so many random calls, and runs no test")
+    parser.add_argument("--calls", type=int, metavar="COUNT", help="makes COUNT random calls, and runs no test")
     given = parser.parse_args()
     why = missing(given)
     if why:

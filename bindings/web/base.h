@@ -1,7 +1,7 @@
-/* What each call of the module uses: sessions by index, a guard, room for what comes in, and answers of many parts in one piece.
+/* State and helpers that the module's calls share: sessions by index, a guard, a buffer for arguments, and results of many parts in one buffer.
  *
- * Only numbers of 32 bits cross: what a call writes goes into `numbers`, texts and names are handed in by where they begin in `room` and how long they
- * are, and what is lent is answered by its place and its length. */
+ * Only numbers of 32 bits cross the boundary. A call writes its results into `numbers`. A text or a name is passed as an address in `room` and a length,
+ * and borrowed data is returned as an address and a length. */
 #ifndef HUCKLEPORT_WEB_BASE_H
 #define HUCKLEPORT_WEB_BASE_H
 
@@ -35,7 +35,7 @@ SHOWN(numbers)(void)
     return place(numbers);
 }
 
-/* A piece with room for so many parts of a size: twice as many as before, as long as these are too few. NULL where there is no memory; it then stays. */
+/* Grows a buffer by doubling until it holds `wanted` items of `size` bytes. Returns NULL if out of memory; the old buffer then stays as it is. */
 static void *lengthened(void *piece, uint32_t *room, size_t wanted, size_t size)
 {
     size_t parts = *room ? *room : LEAST / size;
@@ -47,7 +47,7 @@ static void *lengthened(void *piece, uint32_t *room, size_t wanted, size_t size)
     return found;
 }
 
-/* A piece as it is, or NULL where it was larger than what is kept, and has been given back. */
+/* Returns a buffer as it is, or frees it and returns NULL if its capacity is more than LARGE bytes. */
 static void *unless_large(void *piece, uint32_t *room, size_t size)
 {
     if (*room <= LARGE / size)
@@ -152,12 +152,12 @@ SHOWN(close)(uint32_t index)
     return leave(status);
 }
 
-/* ---- Room for what comes in. */
+/* ---- The buffer for arguments. */
 
 static uint8_t *room;
 static uint32_t room_size;
 
-/* Room for so many bytes, whose place is answered, or 0; what stood there is lost. Its size is the first number. */
+/* Returns the address of a buffer of at least `size` bytes, or 0 if out of memory or busy. Its old content is lost; its capacity is the first number. */
 SHOWN(room)(uint32_t size)
 {
     if (is_busy)
@@ -178,7 +178,7 @@ SHOWN(held)(void)
     return (uint32_t)heap_held();
 }
 
-/* From now on the memory does not grow past so many bytes; 0 takes the bound away. */
+/* Keeps the memory from growing past `bytes` bytes from now on; 0 removes the limit. */
 SHOWN(bound)(uint32_t bytes)
 {
     heap_bound(bytes);
@@ -285,11 +285,11 @@ SHOWN(name_bytes)(uint32_t number)
     return HP_OK;
 }
 
-/* ---- Names of nodes. Those that were asked for last are kept at places that the nodes' numbers say, so many at most. */
+/* ---- Names of nodes: a cache of those that were read last, at most MOST_NAMED. A node's number is the key of its slot. */
 
 enum { FEWEST_NAMED = 512, MOST_NAMED = 131072 };
 
-/* Has so many places that there is one for a node alone, as far as that goes; where there is no memory, those stay that are there. */
+/* Grows the cache until a node has a slot of its own, or to MOST_NAMED slots. If out of memory, the cache stays as it is. */
 static void widen(opened *its, uint32_t node)
 {
     uint32_t places = its->named_room ? its->named_room : FEWEST_NAMED;
@@ -307,7 +307,7 @@ static void widen(opened *its, uint32_t node)
     its->named_room = places;
 }
 
-/* The place of a node, or NULL. */
+/* Returns the slot of a node, or NULL. */
 static named *place_of_node(hp_session *session, uint32_t node)
 {
     opened *its = (opened *)session;
@@ -538,7 +538,7 @@ static bool put_holder(hp_session *session, size_t at, const name *its)
     return put_text(hp_row_attribute_value(session, at, found, &value), &value);
 }
 
-/* What is put of each row of a tree. (No call goes through a pointer: the module has no table.) */
+/* Which part of each row of a tree is put. (This is no pointer to a function, since the module has no table for calls through pointers.) */
 enum part { WHOLE, ELEMENTS, HOLDERS };
 
 static bool put_part(hp_session *session, enum part part, size_t at, const name *its)
@@ -655,19 +655,19 @@ static uint32_t of_rows(uint32_t index, uint32_t node, enum part part, const nam
     return end_words(status);
 }
 
-/* A node and what is below it, row by row. */
+/* Puts a node and its descendants, row by row. */
 SHOWN(rows)(uint32_t index, uint32_t node)
 {
     return of_rows(index, node, WHOLE, NULL);
 }
 
-/* The elements among a node and what is below it, in tree order: number and name. */
+/* Puts the elements among a node and its descendants, in tree order: number and name. */
 SHOWN(elements)(uint32_t index, uint32_t node)
 {
     return of_rows(index, node, ELEMENTS, NULL);
 }
 
-/* The elements among a node and what is below it that have an attribute of a name: number and value. */
+/* Puts the elements among a node and its descendants that have an attribute of a name: number and value. */
 SHOWN(holders)(uint32_t index, uint32_t node, uint32_t number)
 {
     if (number >= name_count)
@@ -847,7 +847,7 @@ static uint32_t next_over(hp_session *session, hp_node_links *links, uint32_t *d
     return links->next;
 }
 
-/* A node, its siblings behind it and what is below them, in tree order, so many at most; the third number says whether these are all. */
+/* Puts a node, its following siblings and their descendants, in tree order, at most `most` nodes. The third number is 1 if these are all, otherwise 0. */
 SHOWN(nodes_from)(uint32_t index, uint32_t node, uint32_t most)
 {
     hp_session *session;
@@ -869,7 +869,7 @@ SHOWN(nodes_from)(uint32_t index, uint32_t node, uint32_t most)
 
 /* ---- Walkers and observers. */
 
-/* Moves an iterator forth, or back, by so many steps. */
+/* Moves an iterator forward, or back, by `steps` steps. */
 SHOWN(iterate)(uint32_t index, uint32_t iterator, uint32_t is_back, uint32_t steps)
 {
     hp_session *session;
@@ -927,7 +927,7 @@ static uint32_t put_record(hp_session *session, size_t notice, size_t index)
     return HP_OK;
 }
 
-/* The records of a notice: type, target, the counts of what was added and removed, the siblings, and these nodes. */
+/* Puts the records of a notice: type, target, the counts of added and removed nodes, the siblings, and then the added and removed nodes. */
 SHOWN(records)(uint32_t index, uint32_t notice, uint32_t count)
 {
     hp_session *session;

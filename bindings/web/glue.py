@@ -17,7 +17,7 @@ from header import lends, mended
 OWN = {"hp_open", "hp_close"}
 # Slices of bytes that are no name, but a line or what belongs to a list of names.
 OCTETS = {"line", "names", "verdicts"}
-# What is lent, and how JavaScript reads it.
+# The types of borrowed data, and the functions that read them in JavaScript.
 LENT = {"hp_bytes": "bytesAt", "hp_text_view": "textAt"}
 NUMBERS = {"uint8_t", "uint16_t", "uint32_t", "uint64_t", "size_t", "bool"}
 SIGNED = {"int8_t", "int16_t", "int32_t"}
@@ -68,7 +68,7 @@ def form(export, it, structs):
 
 
 def split(export):
-    """What comes in, and what is written or None."""
+    """Returns the parameters that a call reads, and the one that it writes or None."""
     outs = [it for it in export.parameters if it.kind == "out"]
     if len(outs) > 1 or export.parameters[0].kind != "session":
         refuse(export, export.parameters)
@@ -126,7 +126,7 @@ def in_c(export, structs):
 
 
 def reading(found, structs):
-    """Returns the macros by which each call of the library answers HP_OK in place of HP_ENDED, if the library has that status."""
+    """Returns macros that make each call of the library return HP_OK in place of HP_ENDED, if the library has that status."""
     lent = lends(structs.values())
     lines = []
     for it in (export for module in found for export in module.exports):
@@ -141,7 +141,7 @@ def reading(found, structs):
 
 
 def writing(forms):
-    """The statements that write what comes in behind one another, each at a place that is a multiple of 8, and the words of the call."""
+    """Returns the statements that write the arguments one after another, each at a multiple of 8, and the arguments of the call."""
     sizes = [WRITERS[kind][0].format(name) for name, kind in forms if kind in WRITERS] + ["8" for _, kind in forms if kind == "struct"]
     lines, words, before = [f"let at = reserve({' + '.join([*sizes, str(8 * len(sizes))])});", "if (at === 0) return OUT_OF_MEMORY;"], [], None
     for name, kind in forms:

@@ -1,4 +1,4 @@
-/* The heap of the module: Doug Lea's malloc over memory.grow, the three calls by which the core takes memory, and a count of what is taken. */
+/* The heap of the module: Doug Lea's malloc over memory.grow, the core's three calls for memory, and a count of the allocated bytes. */
 #include "heap.h"
 
 #include <stdint.h>
@@ -16,7 +16,7 @@ static size_t has(void)
     return __builtin_wasm_memory_size(0) * PAGE;
 }
 
-/* Grows the memory until it has so many bytes: an eighth ahead where that can be had. Whether it did is read off its size. */
+/* Grows the memory to `want` bytes, or by an eighth if that is more and possible. Returns whether its size is then at least `want`. */
 static int grow_to(size_t want)
 {
     size_t before = has(), ahead = before + before / 8;
@@ -31,7 +31,7 @@ static int grow_to(size_t want)
     return has() >= want;
 }
 
-/* The break of the heap, moved up by so many bytes: where it was. */
+/* Moves the break of the heap up by `bytes`, and returns where it was; (void *)-1 if out of memory. */
 static void *more(ptrdiff_t bytes)
 {
     static unsigned char *at;

@@ -7,7 +7,7 @@
 
 #include "base.h"
 
-/* Names were met of which nothing was told. They are the answer: the number of each, and whether it is that of an attribute. */
+/* The status of a call that met names whose form is unknown. It puts these names: the number of each, and 1 for an attribute's name, otherwise 0. */
 #define UNTOLD 253
 
 enum { INSTRUCTION = 7, COMMENT = 8 };
@@ -17,7 +17,7 @@ enum { IS_VOID = 1, IS_RAW = 2, IS_TEMPLATE = 4 };
 
 /* ---- How names are written. */
 
-/* An element's start tag as far as its attributes, and its end tag behind that; of an attribute what stands ahead of its value. */
+/* How a name is written. For an element: its start tag up to the attributes, then its end tag. For an attribute: the text before its value. */
 struct form {
     uint32_t marks, start, end;
     uint16_t units[];
@@ -41,7 +41,7 @@ SHOWN(tell_form)(uint32_t number, uint32_t kind, uint32_t marks, uint32_t at, ui
     return HP_OK;
 }
 
-/* Which call this is, by which a name that was not told is noted once in it; and whether there was one. */
+/* The number of the current call, so that it notes each unknown name once, and whether it has met one. */
 static uint32_t asking;
 static bool is_untold;
 
@@ -60,7 +60,7 @@ static bool note_untold(uint32_t number, uint32_t kind)
     return true;
 }
 
-/* How a name is written, or NULL where that was not told. */
+/* Finds how a name is written, or NULL if that is unknown. Fails if out of memory. */
 static bool find_form(uint32_t number, uint32_t kind, const struct form **found)
 {
     if (number == HP_NONE)
@@ -69,7 +69,7 @@ static bool find_form(uint32_t number, uint32_t kind, const struct form **found)
     return *found || note_untold(number, kind);
 }
 
-/* ---- What is written. */
+/* ---- The text that is written. */
 
 static uint16_t *html;
 static uint32_t html_length, html_room;
@@ -106,7 +106,7 @@ static bool write_ascii(const char *text)
     return true;
 }
 
-/* What stands for a unit in a text or in a value of an attribute, or NULL for the unit itself. */
+/* Returns the escape of a unit in a text or in an attribute's value, or NULL if the unit is written as it is. */
 static const char *escape_of(uint16_t unit, bool is_value)
 {
     switch (unit) {
@@ -167,8 +167,12 @@ static bool write_name(const name *its)
 
 /* ---- The steps, from node to node by their links. */
 
-/* A node that is open: how its tags are written, NULL where it has none; whether they are left out, since only what is in it is asked for; whether what is
- * in it is left out; and the node that comes behind it. */
+/* An open node:
+ *
+ * - how its tags are written, NULL if it has none;
+ * - whether its tags are left out, since only its content is asked for;
+ * - whether its content is left out;
+ * - the node after it. */
 struct open {
     const struct form *form;
     bool is_bare, is_shut;
@@ -177,7 +181,7 @@ struct open {
 
 static struct open *open;
 static uint32_t open_count, open_room;
-/* What is asked for: only what is in the first node; that templates' contents are left out. */
+/* The options of the call: whether only the content of the first node is written, and whether the contents of templates are left out. */
 static bool is_inner, has_contents;
 
 static bool put_open(struct open its)
@@ -264,7 +268,7 @@ static bool write_leaf(hp_session *session, uint32_t node, uint8_t kind)
     return kind == DOCTYPE ? write_ascii(">") : write_ascii(" ") && write_units(data.units, data.length) && write_ascii(">");
 }
 
-/* Writes a node as far as what is in it, and tells which comes then: its first child, or the one behind it, or HP_NONE. */
+/* Writes a node up to its content, and sets `next` to the node that follows: its first child, the node after it, or HP_NONE. */
 static bool write_node(hp_session *session, uint32_t node, uint32_t *next)
 {
     hp_node_links links;
@@ -303,8 +307,9 @@ static void begin_html(void)
     asking++;
 }
 
-/* A node and all below it as HTML; where `inner` is not 0, only what is in it. The text is told by the third and the fourth number, its place and its length.
- * Where elements may have contents elsewhere, the answer is the templates: the number of each, and where in the text its contents come, which are left out. */
+/* Writes a node and its descendants as HTML, or its content alone if `inner` is not 0. The third and fourth numbers are the text's address and length.
+ * If `contents` is not 0, the contents of templates are left out. The call then puts the templates: the number of each, and the offset in the text at which
+ * its contents belong. */
 SHOWN(html)(uint32_t index, uint32_t node, uint32_t inner, uint32_t contents)
 {
     hp_session *session;

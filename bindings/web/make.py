@@ -1,12 +1,17 @@
 #!/usr/bin/env python3
-"""Makes the core as a WebAssembly module: out/huckleport.wasm, and out/calls.js, by which JavaScript calls it.
+"""Builds the core as a WebAssembly module: out/huckleport.wasm, and out/calls.js, its calls for JavaScript.
 
-The kit proves dom_c and writes it as LLVM code for x86-64, which it hands to clang. That code is kept here, retargeted for wasm64, compiled by the kit's
-clang, linked by its lld with a heap, Debian's functions of compiler-rt and glue, and lowered by binaryen to memory of 32 bits, which every host has.
-What the kit has proved once on this machine, with the code that was kept, is not proved again.
+The kit proves dom_c and writes it as LLVM code for x86-64, which it hands to clang. This script keeps that code and makes the module of it:
 
-Debian has what is needed beside the kit: binaryen, libclang-rt-16-dev-wasm64, and the malloc in the source that the package emscripten has
-(--install installs the first two and takes that one file out of the third).
+- it retargets the code for wasm64;
+- the kit's clang compiles it;
+- the kit's lld links it with a heap, Debian's functions of compiler-rt, and glue;
+- binaryen lowers it to memory of 32 bits, which every host has.
+
+A crate that the kit has proved once on this machine, and whose code was kept, is not proved again.
+
+Debian has the parts that the kit lacks: binaryen, libclang-rt-16-dev-wasm64, and the malloc's source in the package emscripten. --install installs the
+first two and takes that one file out of the third.
 """
 import argparse
 import glob
@@ -75,12 +80,12 @@ def prove_for_wasm(start, kit, crate, jobs):
 
 
 def script_that_proves():
-    """The script that proves what is missing."""
+    """Loads the script that proves missing crates."""
     return loaded("start", os.path.join(ROOT, "tools/start.py"))
 
 
 def code():
-    """Proves what is missing, or takes it from the kit's store, and returns the file of the crate's LLVM code, which is made with its archive."""
+    """Proves missing crates, or takes them from the kit's store, and returns the file of the crate's LLVM code, which is made with its archive."""
     start = script_that_proves()
     if not start.start([CRATE]):
         sys.exit(f"{CRATE} was not proved and built")
@@ -280,7 +285,7 @@ def install():
 
 def words_of(text):
     parser = argparse.ArgumentParser(description=text, formatter_class=argparse.RawDescriptionHelpFormatter)
-    parser.add_argument("--code", metavar="FILE", help=f"the LLVM code of {CRATE}, in place of what is proved and built now")
+    parser.add_argument("--code", metavar="FILE", help=f"the LLVM code of {CRATE}; without it the crate is proved and built now")
     parser.add_argument("--sources", metavar="FOLDER", default=SOURCES, help="the exports that the glue is made of (crates/dom_c/src)")
     parser.add_argument("--malloc", metavar="FILE", help="the source of the malloc (dlmalloc.c)")
     parser.add_argument("--memory", metavar="BYTES", type=int, help="how large the memory may become, in pages of 65,536 bytes (4 GB)")
@@ -290,7 +295,7 @@ def words_of(text):
 
 def main():
     parser = words_of(__doc__)
-    parser.add_argument("--install", action="store_true", help="installs what is needed beside the kit, from Debian, and makes nothing")
+    parser.add_argument("--install", action="store_true", help="installs the parts that the kit lacks, from Debian, and makes nothing")
     parser.add_argument("--verdict", action="store_true", help="proves the crate for the target wasm64, where that was not done, and makes nothing")
     given = parser.parse_args()
     if given.install:

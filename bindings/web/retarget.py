@@ -1,6 +1,6 @@
-"""LLVM's text of the proved crate, which was written for x86-64, as text for wasm64: both have pointers of 64 bits and the same alignments.
+"""Retargets LLVM's text of the proved crate from x86-64 to wasm64. Both have pointers of 64 bits and the same alignments.
 
-What the kit hands on beyond what is known here ends it with a message, so that no module is made of code that was read wrong.
+If the text has anything that this script does not know, it ends with a message, so that no module is made of code that was read wrong.
 """
 import re
 import sys
@@ -22,7 +22,7 @@ def refuse(what):
 
 
 def head(text, word, known, wanted):
-    """Puts another value into a line of the head that has to say what is known."""
+    """Replaces the value in a line of the head, which has to be the known one."""
     found = re.findall(rf'(?m)^target {word} = "(.*)"$', text)
     if found != [known]:
         refuse(f"target {word} {found}")

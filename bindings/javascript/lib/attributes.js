@@ -6,7 +6,7 @@ import { check, native, out, textFrom, TOO_LONG, Refusal, words } from "./core.j
 import { attributeByNumber } from "./names.js";
 
 const NONE_THERE = [];
-/** So many names and values are kept in a list of just their length, since one that grows takes room ahead. */
+/** A list of fewer names and values is copied when an attribute is added, since a list that grows in place reserves more than it needs. */
 const FEW = 16;
 
 function readText(at, length) {

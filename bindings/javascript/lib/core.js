@@ -1,8 +1,8 @@
 /**
- * Sessions of the core: how they are opened and closed, what is let go, what tells that something has changed, and when observers are told.
+ * Sessions of the core. They are opened and closed here, free unused objects, count changes, and have observers notified.
  *
- * Nothing here tells what a document is; each question goes to the module, which answers a status. A refusal is thrown as a Refusal, which is no
- * Error: an interface's method turns it into an exception of its own realm.
+ * The rules for documents are not here: each question goes to the module, which returns a status. A refusal is thrown as a Refusal, which is no
+ * Error. An interface's method turns it into an exception of its own realm.
  */
 import { beforeChange, has, native, out, STUCK, textFrom, TOO_LONG, words } from "./native.js";
 
@@ -96,7 +96,7 @@ class Marks {
 export class Session {
   /** The module's index, where it is open. */
   index;
-  /** One count for each kind of change, by which it is known whether what was read is old: what stands where, attributes, and classes alone. */
+  /** One count for each kind of change, to detect stale caches: of the tree's structure, of attributes, and of classes alone. */
   structure = 0;
   attributes = 0;
   classes = 0;
@@ -126,7 +126,7 @@ export class Session {
   observers = new Map();
   isWatched = false;
 
-  // The wrappers that can be found by number, held weakly: roots, and what was asked for by a number alone. A new root is held until the program waits.
+  // The wrappers that can be found by number, held weakly: roots, and nodes that were looked up by number. A new root is held until the program waits.
   #known = new Map();
   #young = [];
   #found = [];
@@ -145,7 +145,7 @@ export class Session {
     sessions.register(this, this.index, this);
   }
 
-  /** Ends the session; what was in it is refused from then on. */
+  /** Closes the session; its objects are refused from then on. */
   close() {
     if (this.index === CLOSED) return;
     sessions.unregister(this);
@@ -176,7 +176,7 @@ export class Session {
     return { nodes, ranges, staticRanges, iterators, walkers, observers, registrations };
   }
 
-  // ---- What has changed: each says so, and observers are told once the program is done.
+  // ---- Changes: each calls one of these methods, and observers are notified once the program is done.
 
   changed() {
     if (this.isWatched && !this.#isTelling) this.#tellSoon();
@@ -205,7 +205,7 @@ export class Session {
     this.changed();
   }
 
-  /** Nodes came, went or moved of which none is an element. */
+  /** Nodes that are no elements were inserted, removed or moved. */
   movedTexts() {
     this.movedOne(null, null, null);
   }
@@ -245,7 +245,7 @@ export class Session {
     this.changed();
   }
 
-  /** Says who tells observers; they are told of what changes from now on. */
+  /** Sets the function that notifies observers; they are notified of changes from now on. */
   watch(notify) {
     this.#notify = notify;
     this.isWatched = true;
@@ -263,7 +263,7 @@ export class Session {
     return out[0];
   }
 
-  /** An observer, which is never told anything. */
+  /** Returns the number of an observer that is never notified. */
   probe() {
     if (this.#probe === NONE) {
       check(native.hp_create_observer(this.index));
@@ -280,7 +280,7 @@ export class Session {
     if (this.#young.length === 1) soon(() => this.settleYoung());
   }
 
-  /** Keeps a wrapper, weakly, so that its number finds it, and its tree is let go once it is gone. */
+  /** Registers a wrapper, weakly, under its number. Its tree is freed once the wrapper is collected. */
   know(wrapper, number) {
     this.#known.set(number, new WeakRef(wrapper));
     this.#wrappers.register(wrapper, number);
@@ -293,7 +293,7 @@ export class Session {
     for (const it of young) Session.settle(it);
   }
 
-  /** Has what was found of an id be forgotten once the program waits, so that nothing is held by it for longer. */
+  /** Drops the cached result of an id once the program waits, so that the cache holds no node for longer. */
   keepFound(holders) {
     this.#found.push(holders);
     if (this.#found.length > 1) return;
@@ -324,7 +324,7 @@ export class Session {
     }
   }
 
-  // ---- What is let go.
+  // ---- Objects that are freed.
 
   /** Calls the library to release an object by its number once its wrapper is gone. */
   releaseWith(call, wrapper, number) {
@@ -337,7 +337,7 @@ export class Session {
     this.#sweepSoon();
   }
 
-  /** Lets an observer go that nothing points at. */
+  /** Releases an observer that nothing points at. */
   loseObserver(number) {
     this.observers.delete(number);
     native.hp_release_observer(this.index, number);
@@ -366,7 +366,7 @@ export class Session {
     });
   }
 
-  /** Discards each tree whose root has no wrapper any more. What is still in use waits for the next time. */
+  /** Discards each tree whose root has no wrapper any more. A tree that is still in use waits for the next sweep. */
   sweep() {
     this.settleYoung();
     for (let before = -1; this.#leaving.size > 0 && this.#leaving.size !== before; ) {
@@ -386,7 +386,7 @@ export class Session {
     else this.#leaving.add(root);
   }
 
-  /** Forgets the ids of a tree that may go; of one that stays they are told again when it is asked for them. */
+  /** Forgets the ids of a tree that is about to be discarded. */
   forgetIds(root) {
     if (this.ids.size > 0) Session.forgetIds(this, root);
   }

@@ -1,3 +1,3 @@
-/** The package and its page by the types of TypeScript's library "dom" (dom.d.ts); what is there is the same. */
+/** The package and its page by the types of TypeScript's library "dom" (dom.d.ts); the exports are the same. */
 export * from "./index.js";
 export { createPage } from "./page/index.js";

@@ -60,7 +60,7 @@ const CLASS = "class";
 /** The id of an element, or null; all attributes are not read for it. */
 const idOf = (its, name) => (its.values === null ? lent(value(its.session.index, its.number, name.number)) : valueOfName(its, name));
 
-/** Makes a change of an attribute of an element, by its name; `keep` says what is known then. */
+/** Changes an attribute of an element, by its name; `keep` updates the cached attributes. */
 function change(element, name, does, keep) {
   const its = itsOf(element);
   const { session } = its;
@@ -73,7 +73,7 @@ function change(element, name, does, keep) {
   return answer;
 }
 
-/** The same for a value that is set, which is most of what is done. */
+/** Sets an attribute of an element, by its name. It is apart from `change`, since most changes are of this kind. */
 function setNamed(element, name, text) {
   const its = itsOf(element);
   const { session } = its;
@@ -202,7 +202,7 @@ export const byId = { getElementById: [["DOMString"], elementById] };
 
 const SYNTAX_ERROR = 12;
 
-/** Parent and child between which a node comes in, by the word for the place. */
+/** By the word for the position: the parent of the inserted node, and the child before which it is inserted. */
 const PLACES = new Map(Object.entries({
   beforebegin: (element) => [parentOf(element), element],
   afterbegin: (element) => [element, firstChildOf(element)],

@@ -85,7 +85,7 @@ export class FollowingIs {
     return false;
   }
 
-  /** The numbers of those among a node and what is below it that fit, in tree order; null for too many nodes. */
+  /** Returns the numbers of the fitting elements among a node and its descendants, in tree order; null if there are too many nodes. */
   #among(top) {
     const found = [];
     let count = 0;

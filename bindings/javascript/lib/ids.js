@@ -18,7 +18,7 @@ export function holdersOf(session, root, name) {
   return found;
 }
 
-/** The elements of a session that share an id: their numbers, and, until the program waits, what was answered last. */
+/** The elements of a session that share an id: their numbers, and, until the program waits, the last result. */
 class Holders {
   #numbers;
   root = null;

@@ -13,11 +13,11 @@ export interface DOMImplementation {
 }
 export const DOMImplementation: { readonly prototype: DOMImplementation };
 
-/** What is thrown where the standard refuses something. */
+/** The exception for an operation that the standard refuses. */
 export interface DOMException extends Error {
   /** The standard's name of what went wrong. */
   readonly name: string;
-  /** What was refused, in words. */
+  /** A description of the refusal. */
   readonly message: string;
   /** The number of the name, or 0 where it has none. */
   readonly code: number;
@@ -54,7 +54,7 @@ export interface NodeList<N extends Node = Node> extends Iterable<N> {
   readonly length: number;
   /** The node at an index. */
   readonly [index: number]: N;
-  /** What stands at an index, or null. */
+  /** Returns the node at an index, or null. */
   item(index: number): N | null;
   /** Pairs of an index and a node. */
   entries(): IterableIterator<[number, N]>;
@@ -73,7 +73,7 @@ export interface HTMLCollection extends Iterable<Element> {
   readonly length: number;
   /** The element at an index. */
   readonly [index: number]: Element;
-  /** What stands at an index, or null. */
+  /** Returns the element at an index, or null. */
   item(index: number): Element | null;
   /** The first element that has the id, or as an element of HTML the name, or null. */
   namedItem(name: string): Element | null;
@@ -183,7 +183,7 @@ export interface Node extends NodeConstants {
 }
 export const Node: NodeConstants & { readonly prototype: Node };
 
-/** What stands under a parent. */
+/** A node that may be a child. */
 interface ChildNode {
   /** Puts nodes and texts right before this one. */
   before(...nodes: (Node | string)[]): void;
@@ -195,7 +195,7 @@ interface ChildNode {
   remove(): void;
 }
 
-/** What has elements beside it. */
+/** A node that may have elements beside it. */
 interface Siblings {
   /** The nearest element before it among the siblings, or null. */
   readonly previousElementSibling: Element | null;
@@ -203,7 +203,7 @@ interface Siblings {
   readonly nextElementSibling: Element | null;
 }
 
-/** What has children. */
+/** A node that may have children. */
 interface ParentNode {
   /** The children that are elements, as a live list. */
   readonly children: HTMLCollection;
@@ -221,13 +221,13 @@ interface ParentNode {
   replaceChildren(...nodes: (Node | string)[]): void;
 }
 
-/** What finds elements below it. */
+/** A node whose descendants are found by name or class. */
 interface ElementsBelow {
-  /** The elements below with a qualified name, or all by "*", as a live list. */
+  /** Returns the descendants with a qualified name, or all for "*", as a live list. */
   getElementsByTagName(qualifiedName: string): HTMLCollection;
-  /** The elements below of a namespace and a local name, each of which may be "*", as a live list. */
+  /** Returns the descendants with a namespace and a local name, as a live list; "*" stands for any. */
   getElementsByTagNameNS(namespace: string | null, localName: string): HTMLCollection;
-  /** The elements below that have all of some classes, as a live list. */
+  /** Returns the descendants that have all given classes, as a live list. */
   getElementsByClassName(classNames: string): HTMLCollection;
 }
 
@@ -277,9 +277,9 @@ export interface Document extends Node, ParentNode, ElementsBelow {
   adoptNode<N extends Node>(node: N): N;
   /** A live range, at the start of the Document. */
   createRange(): Range;
-  /** An iterator over a node and what is below it. */
+  /** Creates an iterator over a node and its descendants. */
   createNodeIterator(root: Node, whatToShow?: number, filter?: NodeFilter | null): NodeIterator;
-  /** A walker over a node and what is below it. */
+  /** Creates a walker over a node and its descendants. */
   createTreeWalker(root: Node, whatToShow?: number, filter?: NodeFilter | null): TreeWalker;
 }
 export const Document: {
@@ -366,15 +366,15 @@ export interface CharacterData extends Node, ChildNode, Siblings {
   data: string;
   /** How many units there are. */
   readonly length: number;
-  /** So many units from an offset on. */
+  /** Returns `count` units from an offset on. */
   substringData(offset: number, count: number): string;
   /** Adds a text at the end. */
   appendData(data: string): void;
   /** Puts a text in at an offset. */
   insertData(offset: number, data: string): void;
-  /** Takes so many units out from an offset on. */
+  /** Removes `count` units from an offset on. */
   deleteData(offset: number, count: number): void;
-  /** Puts a text in place of so many units from an offset on. */
+  /** Replaces `count` units from an offset on by a text. */
   replaceData(offset: number, count: number, data: string): void;
 }
 export const CharacterData: { readonly prototype: CharacterData };
@@ -476,15 +476,15 @@ export interface Range extends AbstractRange, RangeConstants {
   selectNodeContents(node: Node): void;
   /** How an end of this range stands to one of another: -1, 0 or 1. */
   compareBoundaryPoints(how: number, sourceRange: Range): number;
-  /** Takes out what is in the range. */
+  /** Removes the contents of the range. */
   deleteContents(): void;
-  /** Takes out what is in the range, into a fragment. */
+  /** Removes the contents of the range, and returns them in a fragment. */
   extractContents(): DocumentFragment;
-  /** A copy of what is in the range, in a fragment. */
+  /** Returns a copy of the contents of the range, in a fragment. */
   cloneContents(): DocumentFragment;
   /** Puts a node in at the start. */
   insertNode(node: Node): void;
-  /** Puts what is in the range into a node, which comes in its place. */
+  /** Moves the contents of the range into a node, and inserts the node in their place. */
   surroundContents(newParent: Node): void;
   /** Another range with the same ends. */
   cloneRange(): Range;
@@ -516,9 +516,9 @@ export type NodeFilter =
 export const NodeFilter: {
   /** The node is shown. */
   readonly FILTER_ACCEPT: 1;
-  /** It is not shown; a walker passes over all that is in it too. */
+  /** The node is not shown; a walker skips its descendants too. */
   readonly FILTER_REJECT: 2;
-  /** It is not shown; what is in it may be. */
+  /** The node is not shown; its descendants may be. */
   readonly FILTER_SKIP: 3;
   /** Nodes of all kinds. */
   readonly SHOW_ALL: 0xffffffff;
@@ -619,30 +619,30 @@ export interface MutationRecord {
 }
 export const MutationRecord: { readonly prototype: MutationRecord };
 
-/** Of what an observer is told. */
+/** The changes that an observer is notified of. */
 export interface MutationObserverInit {
-  /** Tells of children that come and go. */
+  /** Notifies of inserted and removed children. */
   childList?: boolean;
-  /** Tells of attributes. */
+  /** Notifies of changed attributes. */
   attributes?: boolean;
-  /** Tells of data. */
+  /** Notifies of changed data. */
   characterData?: boolean;
-  /** Tells of all nodes below too. */
+  /** Notifies of changes of all descendants too. */
   subtree?: boolean;
-  /** Tells what an attribute was. */
+  /** Records the old value of an attribute. */
   attributeOldValue?: boolean;
-  /** Tells what data were. */
+  /** Records the old data. */
   characterDataOldValue?: boolean;
-  /** Tells of these attributes alone. */
+  /** Notifies of these attributes alone. */
   attributeFilter?: string[];
 }
-/** Is told of changes, in a microtask. */
+/** An observer, which is notified of changes in a microtask. */
 export interface MutationObserver {
   /** Watches a node, by some options. */
   observe(target: Node, options: MutationObserverInit): void;
   /** Watches nothing more. */
   disconnect(): void;
-  /** Answers the records that wait, which are then not told. */
+  /** Returns the waiting records; the callback does not get these. */
   takeRecords(): MutationRecord[];
 }
 export const MutationObserver: {
@@ -735,7 +735,7 @@ export class Session {
     /** What all observers watch, with what they watch for a time only. */
     registrations: number;
   };
-  /** Ends the session; what was in it is refused from then on. */
+  /** Closes the session; its objects are refused from then on. */
   close(): void;
 }
 
@@ -791,14 +791,14 @@ export function parseXML(
   },
 ): Document;
 
-/** A node and what is in it as HTML; of a Document and of a fragment what is in it. */
+/** Returns a node with its content as HTML; for a Document or a fragment, its content alone. */
 export function serialize(node: Node): string;
 
-/** A node and what is in it as XML. Needs w3c-xmlserializer. */
+/** Returns a node with its content as XML. Needs w3c-xmlserializer. */
 export function serializeXML(
   node: Node,
   options?: {
-    /** Whether what XML can't say is an error. */
+    /** Whether content that XML can't express is an error. */
     isStrict?: boolean;
   },
 ): string;
@@ -812,9 +812,9 @@ export const memory: {
   readonly size: number;
   /** The bytes that sessions hold of it. */
   readonly held: number;
-  /** Has so many bytes more be there, or throws a RangeError, with which no session ends. */
+  /** Grows the memory until `bytes` more bytes are free, or throws a RangeError, which ends no session. */
   reserve(bytes: number): void;
-  /** Has it not grow past so many bytes; 0 takes the bound away. */
+  /** Keeps the memory from growing past `bytes` bytes; 0 removes the limit. */
   limit(bytes: number): void;
 };
 

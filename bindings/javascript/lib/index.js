@@ -49,14 +49,14 @@ export const memory = Object.freeze({
     return native.held();
   },
   /**
-   * Has so many bytes more be there, so that sessions can take them without a growth of the memory. A RangeError says that there are not so many; no
-   * session has ended then.
+   * Grows the memory until `bytes` more bytes are free, so that sessions can take them without a growth of the memory. Throws a RangeError if out of
+   * memory, which ends no session.
    */
   reserve(bytes) {
     if (!(bytes >= 0 && bytes <= 4294967295)) throw new RangeError(`expected a number of bytes from 0 to 4294967295, not ${String(bytes)}`);
     if (!native.reserve(bytes)) throw new RangeError(`out of memory: ${bytes} more bytes were refused`);
   },
-  /** Has it not grow past so many bytes; 0 takes the bound away. A call for which there is no memory left ends its session (RangeError). */
+  /** Keeps the memory from growing past `bytes` bytes; 0 removes the limit. A call that runs out of memory ends its session, and throws a RangeError. */
   limit(bytes) {
     if (!(bytes >= 0 && bytes <= 4294967295)) throw new RangeError(`expected a number of bytes from 0 to 4294967295, not ${String(bytes)}`);
     native.bound(bytes);
@@ -106,7 +106,7 @@ export class Session {
   }
 }
 
-/** A node that was given, or a refusal of what is none. */
+/** Returns a given node, and refuses any other value. */
 function nodeOf(given) {
   if (!isNode(given)) refuseOther("a node", given);
   return given;
@@ -137,11 +137,14 @@ function documentOptions(its, { xml = false, url = "about:blank", contentType = 
 }
 
 /**
- * A window: an object that has all interfaces, of a realm of its own, and a `document`, of HTML with a head and a body. All is put on `global`, a
- * context's global object, where one is given; what is thrown and the arrays that are made are then by its constructors. `beside` is a window
- * or a Document whose session it shares, so that nodes can move between the two; `report` takes what observers' callbacks throw; `empty`
- * leaves the Document without an element, and so does `xml`, which makes it one of XML, whose `contentType` may be given. Where `refuses` is false, names
- * of the standard that the package lacks do not refuse, for a program that gives them itself.
+ * Creates a window: an object that has all interfaces, of a realm of its own, and a `document`, of HTML with a head and a body. Its options are:
+ *
+ * - `global`: a context's global object, which becomes the window; exceptions and arrays are then made by its constructors;
+ * - `beside`: a window or a Document whose session the window shares, so that nodes can move between the two;
+ * - `report`: a function that takes exceptions of observers' callbacks;
+ * - `empty`: leaves the Document without an element;
+ * - `xml`: makes the Document one of XML, without an element, whose `contentType` may be given;
+ * - `refuses`: if false, names of the standard that the package lacks do not refuse, for a program that defines them itself.
  */
 export function createWindow({ global: given, beside, report, refuses, empty = false, ...options } = {}) {
   const global = given && contextGlobal(given);
@@ -180,8 +183,8 @@ export function treeAdapter(document) {
   return Object.fromEntries(Object.entries(adapterOf(document)).map(guarded));
 }
 
-/** A node and what is in it as HTML; of a Document and of a fragment what is in it. */
+/** Returns a node with its content as HTML; for a Document or a fragment, its content alone. */
 export const serialize = (node) => realm.guarded(() => written(node));
 
-/** A node and what is in it as XML. Needs w3c-xmlserializer. */
+/** Returns a node with its content as XML. Needs w3c-xmlserializer. */
 export const serializeXML = (node, options) => realm.guarded(() => writtenXML(node, options));

@@ -26,7 +26,7 @@ export const small = (text) => (/[A-Z]/.test(text) ? lowered(text) : text);
 /** A text whose letters of ASCII are capitals. */
 export const capital = (text) => (/[a-z]/.test(text) ? raised(text) : text);
 
-/** The namespaces that have the same number in each session: what is written of a name as HTML depends on them. The others are numbered behind them. */
+/** The namespaces that have the same number in each session, since the form of a name as HTML depends on them. The others have higher numbers. */
 const EVERYWHERE = [HTML, SVG, MATHML, XML, XMLNS, XLINK];
 
 function numberOfNamespace(session, namespace) {
@@ -113,7 +113,7 @@ function extracted(namespace, qualified, tryName) {
   throw new Refusal(NAMESPACE_ERROR, `the name '${qualified}' does not fit the namespace ${its.namespace === null ? "null" : `'${its.namespace}'`}`);
 }
 
-/** Makes an element that is let go at once. */
+/** Tries a call on a new element, which is discarded at once, and refuses if the call does. */
 function trial(session, name, does) {
   check(native.hp_create_element(session.index, 0, name));
   const element = out[0];
@@ -125,6 +125,6 @@ function trial(session, name, does) {
 /** The name of an element by its namespace and its qualified name. */
 export const extractedElement = (session, namespace, qualified) => extracted(namespace, qualified, (local) => trial(session, local, () => OK));
 
-/** The name of an attribute, likewise. */
+/** The name of an attribute by its namespace and its qualified name. */
 export const extractedAttribute = (session, namespace, qualified) =>
   extracted(namespace, qualified, (local) => trial(session, "a", (element) => native.hp_set_attribute(session.index, element, local, "")));

@@ -86,7 +86,7 @@ function longText(from, length) {
   return pieces.join("");
 }
 
-/** The text that begins at a place of the memory and has so many units. */
+/** Returns the text of `length` units at an address, or TOO_LONG. */
 export function textFrom(place, length) {
   if (length <= SHORT) return shortText(place >>> 1, length);
   return length > LONGEST ? TOO_LONG : longText(place >>> 1, length);
@@ -115,13 +115,13 @@ function bytesAt() {
   return (length <= SHORT_NAME ? ascii(place, length) : undefined) ?? decoder.decode(octets.subarray(place, place + length));
 }
 
-// ---- What comes in: the caller reserves room for all of it, and then writes piece by piece.
+// ---- Arguments: the caller reserves room for all of them, and then writes one after another.
 
 const LARGE = 1048576;
 let room = 0;
 let roomSize = 0;
 
-/** Room for so many bytes, or 0 where there is no memory for it. */
+/** Returns the address of a buffer of at least `size` bytes, or 0 if out of memory. */
 function reserve(size) {
   if (size <= roomSize && (roomSize <= LARGE || size > LARGE)) return room;
   room = size > 4294967295 ? 0 : module.room(size) >>> 0;
@@ -159,14 +159,14 @@ function putNumbers(place, numbers) {
 
 const calls = callsOver(module, { reserve, putName, putText, putOctets, putNumbers, bytesAt, textAt });
 
-// ---- Calls of the module's own: what takes several calls of the library in one.
+// ---- The module's own calls: each makes several calls of the library in one.
 
 const lentBy = (call) => (session, ...given) => {
   const status = call(session, ...given);
   return status === 0 ? textAt() : status;
 };
 
-/** The number by which the module has a name, from then on. */
+/** Returns the module's number of a name, which stays the same; HP_NONE if out of memory. */
 function nameNumber(name) {
   const place = reserve(3 * name.length + 8);
   return place === 0 ? NUMBERS.HP_NONE : module.name_number(place, putName(place, name)) >>> 0;
@@ -218,7 +218,7 @@ const own = {
   held: () => module.held() >>> 0,
   /** The bytes of memory that there are, and that there may be at most: 0 for as many as the module can have. */
   size: () => octets.length,
-  /** Has the memory grow until so many bytes are free in one piece; returns whether it could. */
+  /** Grows the memory until `size` bytes are free in one piece; returns whether it could. */
   reserve(size) {
     const isThere = reserve(size) !== 0;
     if (size > LARGE) reserve(SHORT_NAME);
@@ -227,9 +227,9 @@ const own = {
   bound: module.bound,
 };
 
-// ---- What waits for a change of a tree.
+// ---- A function that waits for a change of a tree.
 
-/** Calls that may change what stands where, or that end what is in a session. */
+/** Calls that may change the structure of a tree, or that free objects of a session. */
 const MOVING = `hp_line hp_insert_before hp_append_child hp_adopt_node hp_replace_child hp_remove_child hp_remove hp_replace_children hp_normalize
   hp_set_text_content hp_discard hp_split_text hp_delete_contents hp_extract_contents hp_insert_node hp_surround_contents hp_release_iterator
   hp_next_node hp_previous_node close`.split(/\s+/);

@@ -188,8 +188,8 @@ function comparePosition(node, other) {
 }
 
 /**
- * Whether two nodes are equal. The core has namespaces and prefixes in its names (see names.js), and the standard does not compare an attribute's prefix:
- * where there are any, and where the nodes are of two sessions, whose marks differ, what the rows say is compared without them.
+ * Returns whether two nodes are equal. The core has namespaces and prefixes in its names (see names.js), and the standard does not compare an attribute's
+ * prefix. If an attribute has a prefix, or if the nodes are of two sessions, whose marks differ, the rows are compared, without attributes' prefixes.
  */
 function isEqual(node, other) {
   if (other === null) return false;
@@ -303,7 +303,7 @@ function removedIn(told) {
   return found;
 }
 
-/** Makes a change under a node, by which children leave some parents that are given; the wrappers of what left then follow. */
+/** Makes a change under a node, and updates the wrappers of the children that it removes from given parents. */
 export function following(ancestor, parents, change) {
   const session = sessionOf(ancestor);
   const document = documentOf(ancestor);

@@ -12,7 +12,7 @@ const HEAD = 6;
 /** The notice that has the records of one observer. */
 const NOTICE = 0;
 
-// ---- Reading: first all that is told, by numbers, since the answer is lent only until the next call; then the objects.
+// ---- Reading: first all records as numbers, since the result is borrowed only until the next call; then the objects.
 
 /** The records of the last answer as plain objects of numbers and texts. */
 function read(session) {
@@ -170,10 +170,10 @@ function takeRecords(observer) {
   return realm.array(found);
 }
 
-/** What an observer is told in its turn: nothing where it was let go. */
+/** Returns the records of an observer in its turn; none if it was released. */
 const toldInTurn = (session, number) => (native.hp_tell_observer(session.index, number) === OK ? read(session) : []);
 
-/** Tells the observers of a session what they wait for. What an earlier callback has done to a later observer counts. */
+/** Notifies the observers of a session of their pending records. Changes that an earlier callback makes to a later observer count. */
 function notify(session) {
   if (native.hp_take_pending(session.index) !== OK) return;
   for (const number of wordsOf(native.listed(session.index)).slice()) {

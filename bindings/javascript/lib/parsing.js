@@ -179,7 +179,7 @@ class Builder {
 
 const EVENTS = ["opentag", "closetag", "text", "cdata", "comment", "processinginstruction", "doctype"];
 
-/** Reads a text of XML into a Document that has no child yet; what is not well-formed is a SyntaxError. */
+/** Reads a text of XML into a Document that has no child yet. Throws a SyntaxError if the text is not well-formed. */
 export function readXML(document, xml) {
   const { SaxesParser } = wanted("saxes", "parsing XML");
   const builder = new Builder(document);

@@ -147,12 +147,15 @@ function upTo(node, top) {
   return [...found, top];
 }
 
-/** Makes a change of what is in a range; the wrappers of what left its parent follow, and so do those of nodes that come in, which have left theirs. */
+/**
+ * Changes the contents of a range by a call, and returns the number that the call writes. Updates the wrappers of removed nodes, and of the inserted nodes
+ * `come`, which have left their old parents.
+ */
 function within(range, come, call, ...words) {
   const its = rangeOf(range);
   const { session, number } = its;
   const ancestor = commonAncestor(range);
-  // (only these can lose children: those above the two ends, and what comes in)
+  // (only these can lose children: the two ends' nodes, their ancestors, and the inserted nodes)
   const parents = new Set([...upTo(container(range, "start"), ancestor), ...upTo(container(range, "end"), ancestor), ...come]);
   let answer;
   following(ancestor, parents, () => {

@@ -81,7 +81,7 @@ export class Realm {
     this.#document = document;
   }
 
-  /** What is thrown for a fault: a refusal as the realm's exception, anything else as it is. */
+  /** Returns the exception to throw for a fault: the realm's own for a refusal, any other fault as it is. */
   thrown(fault) {
     return fault instanceof Refusal ? exceptionFor(this, fault) : fault;
   }

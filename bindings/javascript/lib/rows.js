@@ -1,4 +1,4 @@
-/** Trees read at once: the rows of a node and of what is below it, in tree order, by one call of the module. */
+/** Trees that are read at once: the rows of a node and its descendants, in tree order, by one call of the module. */
 import { check, DOCTYPE, ELEMENT, native, NONE, out, TEXT, COMMENT, INSTRUCTION, TOO_LONG, Refusal, textFrom, words } from "./core.js";
 import { attributeByNumber, elementByNumber } from "./names.js";
 import { numberOf, sessionOf } from "./wrappers.js";

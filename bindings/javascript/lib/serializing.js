@@ -23,9 +23,9 @@ function attributeName({ namespace, local, qualified }) {
 /** How a tag is named: elements of HTML, MathML and SVG have no prefix there. */
 const tagOf = ({ namespace, local, qualified }) => (namespace === HTML || namespace === MATHML || namespace === SVG ? local : qualified);
 
-// ---- HTML: the module writes a tree by one call (see html.h there). It is told what an element is by its name and how names are written, once for each.
+// ---- HTML: the module writes a tree by one call (see html.h there). The marks of each name and its written form are passed to the module once.
 
-/** What the module answers where it met names of which nothing was told, and the kinds of names there. */
+/** The module's status if it met names whose form it does not know; the kinds of names, and the marks of elements. */
 const UNTOLD = 253;
 const OF_ELEMENT = 0;
 const OF_ATTRIBUTE = 1;
@@ -52,7 +52,7 @@ function tellForms(session) {
   }
 }
 
-/** A node and what is in it, or only that, as HTML. */
+/** Returns a node with its content, or its content alone, as HTML. */
 function written(node, isInner) {
   const session = sessionOf(node);
   const ask = () => native.html(session.index, numberOf(node), Number(isInner), Number(session.hasContents));
@@ -76,13 +76,13 @@ function filled(session, text, templates) {
   return whole + text.slice(from);
 }
 
-/** What is in a node as HTML; of a template its contents. */
+/** Returns the content of a node as HTML; for a template, its contents. */
 export function serializeInner(node) {
   const contents = sessionOf(node).hasContents ? contentsOf(node) : null;
   return written(contents ?? node, true);
 }
 
-/** A node and what is in it as HTML: of a Document and a fragment what is in it. */
+/** Returns a node with its content as HTML; for a Document or a fragment, its content alone. */
 export function serialize(node) {
   if (!isNode(node)) throw new TypeError(`expected a node, not ${describe(node)}`);
   return written(node, false);
@@ -130,7 +130,10 @@ function objectsOf(node) {
   return top;
 }
 
-/** A node and what is in it as XML. What XML can't say, such as a comment with two hyphens, is an error where `isStrict` is true. Needs w3c-xmlserializer. */
+/**
+ * Returns a node with its content as XML. Needs w3c-xmlserializer. If `isStrict` is true, content that XML can't express, such as a comment with two hyphens,
+ * is an error.
+ */
 export function serializeXML(node, { isStrict = false } = {}) {
   if (!isNode(node)) throw new TypeError(`expected a node, not ${describe(node)}`);
   const serializer = wanted("w3c-xmlserializer", "serializing XML");

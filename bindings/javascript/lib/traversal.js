@@ -1,9 +1,8 @@
 /**
  * NodeIterator, TreeWalker and NodeFilter.
  *
- * A walker goes over the tree by the standard's steps, from wrapper to wrapper. An iterator gives way before removals, which is the core's: without a
- * filter of the program's the core's own iterator moves; with one, which the core can't ask, it is moved on in the core to the node that the filter
- * took.
+ * A walker goes over the tree by the standard's steps, from wrapper to wrapper. The core moves iterators before removals. Without a filter of the program's,
+ * the core's own iterator moves. With a filter, which the core can't call, the iterator is moved in the core to the node that the filter accepted.
  */
 import { beforeChange, check, native, NONE, out, Refusal } from "./core.js";
 import { known, refuseType } from "./webidl.js";
@@ -26,7 +25,7 @@ function createdBy(call, root, show) {
 
 const objectOf = (node) => node && node.object;
 
-/** What iterators and walkers have in common: root, what is shown, the filter, and whether it is being asked. A node is here by what its object knows. */
+/** The base of iterators and walkers: root, kinds of nodes to show, filter, and whether the filter is being called. Nodes are here by their states. */
 class Traversal {
   isAsking = false;
 
@@ -68,7 +67,7 @@ class Traversal {
   }
 }
 
-/** Whether something is a proxy that was revoked, of which nothing can be asked. */
+/** Returns whether a value is a revoked proxy, on which each operation throws. */
 function isRevoked(it) {
   try {
     return Array.isArray(it) && false;
@@ -137,7 +136,7 @@ class IteratorIs extends Traversal {
     cursor.structure = this.session.structure;
   }
 
-  /** Says that the iterator has come to a node by so many steps, which the core follows before the tree changes. */
+  /** Notes that the iterator has come to a node by a number of steps; the core makes these before the tree changes. */
   went(course, node, steps) {
     if (due.iterator !== this || due.isBack !== course.isBefore) {
       beforeChange(makeSteps);
@@ -166,7 +165,7 @@ class IteratorIs extends Traversal {
     return out[0];
   }
 
-  /** Moves on to a node by so many steps, or from wherever the filter may have put the reference meanwhile. */
+  /** Moves the core's iterator to a node by at most `steps` steps, or, if the filter has moved the reference meanwhile, from there. */
   follow(course, wanted, steps) {
     let at = NONE;
     for (let count = 0; count < steps && at !== wanted; count++) at = this.move(course.call);
@@ -360,7 +359,7 @@ function lastBelow(its, start) {
   return { node, verdict };
 }
 
-/** The nodes ahead of a node among its siblings and what is in them, backwards: where that ends, and whether with one that is accepted. */
+/** Goes backwards over a node's preceding siblings and their descendants; returns the node at which that ends, and its verdict. */
 function backwards(its, start) {
   let last = { node: start, verdict: SKIP };
   for (let it = start.previousSibling(); it !== null && last.verdict !== ACCEPT; it = last.node.previousSibling()) last = lastBelow(its, it);

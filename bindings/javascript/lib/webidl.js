@@ -1,16 +1,20 @@
 /**
- * Interfaces from tables, as Web IDL binds them: conversions of what comes in, brands, argument counts, constants, constructors.
+ * Interfaces from tables, as Web IDL binds them: conversions of arguments, brands, argument counts, constants, constructors.
  *
  * An interface is an object with `name`, `parent`, `is` (its brand), and `constants`, `attributes`, `operations`, `construct`, `hidden` (names that a `with`
- * does not see). An attribute is a getter or `{ type, get, set }`, with `read` in place of `get` if the state of a node says it: then the interface is Node,
- * or its `fits` says by the state of a node whether the node has it. `quick` makes a getter that returns a cached value, of the getter to call without one and
- * of `fits`. An operation is a list of its arguments' types and a function of the object and the arguments. The types are those of Web IDL in its words;
- * `= value` gives what stands for an absent one, and `...` takes all that come.
+ * does not see).
+ *
+ * An attribute is a getter or `{ type, get, set }`. It has `read` in place of `get` if the state of a node has the value. Then the interface is Node, or its
+ * `fits` returns by the state of a node whether the node has the attribute. `quick` makes a getter that returns a cached value; it gets `fits`, and the
+ * getter to call if nothing is cached.
+ *
+ * An operation is a list of its arguments' types and a function of the object and the arguments. The types are those of Web IDL in its words. `= value`
+ * gives the value of an absent argument, and `...` takes all further arguments.
  */
 import { native, Refusal } from "./core.js";
 import { stateOf } from "./wrappers.js";
 
-/** Refuses what is of the wrong type: the realm's own TypeError. */
+/** Refuses a value of the wrong type, with the realm's own TypeError. */
 export function refuseType(message) {
   throw new Refusal(native.HP_TYPE_ERROR, message);
 }
@@ -162,7 +166,7 @@ function named(made, name, length) {
   return made;
 }
 
-/** An operation without arguments, with one, two or three, or with any others: what comes in is converted in its order. */
+/** Operations by the number of their arguments: none, one, two, three, or any others. The arguments are converted in their order. */
 const FORMS = [
   (realm, test, does) => ({
     operation() {

@@ -1,15 +1,15 @@
 /**
- * The objects that stand for nodes and for what watches them: the same object for the same node as long as a program can reach it.
+ * The objects of nodes, and of ranges, traversals and observers: the same object for the same node as long as a program can reach it.
  *
- * A wrapper has one field: what it knows, a NodeIs, which is of one form for all interfaces, so that an engine reads them all in the same way.
+ * A wrapper has one field: its state, a NodeIs, which is of one form for all interfaces, so that an engine reads them all in the same way.
  *
- * A wrapper's parent has a wrapper too, and the two hold each other: so what a program keeps on a node lives as long as it holds any node of the
- * tree. A root holds its Document. The session holds roots alone, weakly, and lets a tree go when its root's wrapper is gone; any other wrapper is
- * found from its parent's.
+ * A wrapper's parent has a wrapper too, and the two hold each other. So the properties that a program sets on a node live as long as it holds any node of
+ * the tree. A root holds its Document. The session holds roots alone, weakly, and frees a tree when its root's wrapper is gone. Any other wrapper is found
+ * from its parent's.
  *
- * A wrapper keeps its links to the wrappers beside it once they were asked for: undefined is what was not asked, null is none. Two wrappers keep a
- * link both or neither, and a parent that keeps a first or a last child stands for it in the same way. A change of one place mends the links around
- * it; any other has all links of its session be read anew, by a count that grows.
+ * A wrapper caches its links to the wrappers beside it once they were read: undefined is a link that was not read, null is none. Two wrappers both cache the
+ * link between them, or neither does. The same holds for a parent and its first or last child. A change of one place updates the links around it. Any other
+ * change invalidates all links of its session, by a count that grows.
  */
 import { check, DOCUMENT, ELEMENT, FRAGMENT, native, NONE, OK, out, Refusal, Session, soon, words } from "./core.js";
 import { elementByNumber } from "./names.js";
@@ -23,14 +23,14 @@ const NEXT_AT = 4;
 const FIRST_AT = 5;
 const LAST_AT = 6;
 
-/** So many wrapped children are gone through one by one; of more there is a table by number. */
+/** Up to this many wrapped children are searched one by one; if there are more, a table finds them by number. */
 const FEW = 8;
 
 const CHILD = 1;
 const KNOWN = 2;
 const HELD = 4;
 
-// ---- What was made or found last, by number: held until the program waits, and then for as long as no collection comes.
+// ---- A cache of the nodes that were made or found last, by number. It is held until the program waits, and then until the next garbage collection.
 
 const PLACES = 32768;
 const MASK = PLACES - 1;
@@ -52,7 +52,7 @@ function recentNow() {
   return recent;
 }
 
-/** What the object of a number knows where it was made or found of late, else undefined. */
+/** Returns the state of a number's node if the cache has it, otherwise undefined. */
 export function recall(session, number) {
   const it = (recent ?? recentNow())[number & MASK];
   return it !== undefined && it.number === number && it.session === session ? it : undefined;
@@ -66,13 +66,13 @@ Session.forgetRecent = () => {
 
 const mayHaveChildren = (kind) => kind === ELEMENT || kind === DOCUMENT || kind === FRAGMENT;
 
-/** What is known of the first and the last child without asking. */
+/** Returns the first and last child of a new node of a kind: null if it can't have children, otherwise undefined. */
 const endsOf = (kind) => (mayHaveChildren(kind) ? undefined : null);
 
-/** What a node's object knows. Other nodes are here by what theirs know. */
+/** The state of a node's object. It has other nodes by their states. */
 class NodeIs {
   constructor(session, number, kind, realm) {
-    // (what is read most stands first, and so together in memory)
+    // (the fields that are read most are first, and so together in memory)
     this.session = session;
     this.kind = kind;
     // What an element's name says (see names.js), and its attributes (see attributes.js); of a text its data, as long as the links hold.
@@ -80,7 +80,7 @@ class NodeIs {
     this.values = null;
     this.kept = null;
     this.object = null;
-    // The links to what stands beside it, and the count of the session at which they hold: none is known yet.
+    // The links to its neighbours, and the count of the session for which they are valid: none is known yet.
     this.stamp = session.links;
     this.first = endsOf(kind);
     this.next = undefined;
@@ -147,7 +147,7 @@ class NodeIs {
     this.session.know(this.object, this.number);
   }
 
-  /** What is known of a child by its number, or undefined. */
+  /** Returns the state of a wrapped child by its number, or undefined. */
   child(number) {
     if (this.table !== null) return this.table.get(number);
     let it = this.below;
@@ -158,7 +158,7 @@ class NodeIs {
     return this.table.get(number);
   }
 
-  /** The same; the child's wrapper is made where there is none. */
+  /** Returns the state of a child by its number; makes its wrapper if there is none. */
   childOf(number) {
     const { session } = this;
     const found = session.marks.has(number) ? this.child(number) : undefined;
@@ -169,7 +169,7 @@ class NodeIs {
     return made;
   }
 
-  /** The child of a number, of which the rest is known as well; its links are those of now. */
+  /** Returns the state of a child by its number, with valid links; makes its wrapper by its kind, name and count of children if there is none. */
   adopted(number, kind, name, count) {
     const { session } = this;
     const found = session.marks.has(number) ? this.child(number) : undefined;
@@ -256,7 +256,7 @@ class NodeIs {
     return number === NONE ? null : parent.childOf(number);
   }
 
-  /** The same of a link that leads forth: where that is not known, what comes behind it is read with it. */
+  /** Asks the module for a link forward. If that node has no wrapper, the nodes after it in tree order are read with it. */
   askForth(at, parent) {
     const { session } = this;
     check(hp_links(session.index, this.number));
@@ -319,7 +319,7 @@ class NodeIs {
     this.previous = this.next = undefined;
   }
 
-  /** Keeps that a new child stands between two, as far as they are known: null for none, undefined for what is not known. */
+  /** Links a new child to its two neighbours, as far as they are known: null for none, undefined for an unknown one. */
   between(previous, next) {
     if (previous) previous.link(this);
     else if (previous === null) this.lead();
@@ -327,7 +327,7 @@ class NodeIs {
     else if (next === null) this.trail();
   }
 
-  /** Forgets what is kept of a seam, in which something came that is not known. */
+  /** Invalidates the links across a gap into which unknown nodes were inserted. */
   forgetSeam(previous, next) {
     if (previous) previous.next = undefined;
     else if (previous === null) this.first = undefined;
@@ -451,7 +451,7 @@ function isGoingOn(its) {
   return false;
 }
 
-/** Reads a child of a parent by its number, and what comes behind it in tree order as far as the parent's end: few nodes first, more as a walk goes on. */
+/** Reads a child of a parent by its number, and the nodes after it in tree order up to the parent's end: few nodes first, more as a walk goes on. */
 function readAhead(its, parent, number) {
   const { session } = parent;
   readAtOnce = isGoingOn(its) ? Math.min(4 * readAtOnce, MOST_AT_ONCE) : FEWEST;
@@ -683,7 +683,7 @@ function makeRoot(session, number, kind, document) {
   return made.object;
 }
 
-/** Goes from the root, or from what is kept, down to the node. */
+/** Makes the wrappers from the root, or from the nearest one that is kept, down to the node, and returns the node's. */
 function wrapAnew(session, number) {
   const { way, above } = wayTo(session, number);
   let it = itsOf(above);
@@ -774,7 +774,7 @@ export function wrappedBelow(node) {
   return found;
 }
 
-/** Puts all wrappers of a session where the core says that their nodes stand; what is no longer there stands alone. */
+/** Moves all wrappers of a session to the positions of their nodes in the core. A wrapper whose node is gone has no parent and no children. */
 export function settleAll(session) {
   const all = new Set();
   for (const root of session.everyKnown()) for (const it of wrappedBelow(root)) all.add(it);
@@ -790,11 +790,11 @@ export const childrenOf = (node) => itsOf(node).wrapped().map(objectOf);
 
 export const isOfParents = (node) => mayHaveChildren(kindOf(node));
 
-// ---- What is no node.
+// ---- Objects that are no nodes.
 
 export let thingOf, isThing;
 
-/** An object of an interface that is no node, with what it knows. */
+/** An object of an interface that is no node, with its state. */
 export class Thing {
   #its;
 
@@ -808,7 +808,7 @@ export class Thing {
 
   static {
     isThing = (it) => #its in it;
-    // (the class itself is compared, since a look through prototypes takes longer than most of what is asked)
+    // (the class itself is compared, since a search through prototypes takes longer than most calls)
     thingOf = (it, kind) => {
       if (typeof it !== "object" || it === null || !(#its in it)) return undefined;
       const its = it.#its;
@@ -817,5 +817,5 @@ export class Thing {
   }
 }
 
-/** Makes such an object; what it knows is an instance of a class, by which its brand is told. */
+/** Makes an object that is no node. Its state is an instance of a class, which is its brand. */
 export const makeThing = (realm, name, its) => new realm.makers[name](its);

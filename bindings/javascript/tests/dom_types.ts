@@ -1,4 +1,4 @@
-// Nodes of the package go to functions over TypeScript's library "dom", and what is not there does not compile; only compiled, never run.
+// Nodes of the package are passed to functions over TypeScript's library "dom", and absent members do not compile. This file is only compiled, never run.
 import { createDocument, createPage } from "../lib/dom.js";
 
 const depth = (node: Node): number => (node.parentNode ? depth(node.parentNode) + 1 : 0);

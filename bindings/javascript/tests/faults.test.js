@@ -1,4 +1,4 @@
-// What was once wrong: each has a test of its own. Expected values are the standard's.
+// Earlier faults: each has a test of its own. Expected values are the standard's.
 import assert from "node:assert/strict";
 import test from "node:test";
 
@@ -7,7 +7,7 @@ import { createDocument, createWindow, DOMException, memory, NodeFilter, seriali
 const HTML = "http://www.w3.org/1999/xhtml";
 const SVG = "http://www.w3.org/2000/svg";
 
-/** A Document with an element that has so many elements. */
+/** Returns a Document with an element that has `count` elements. */
 function listOf(count) {
   const document = createDocument();
   const root = document.appendChild(document.createElement("ul"));
@@ -126,7 +126,7 @@ test("a kept list of tags means what it meant when it was asked for, also in a D
   assert.deepEqual([...list], items);
 });
 
-test("what is refused says why", () => {
+test("a refusal says why", () => {
   const saying = (does) => {
     try {
       does();

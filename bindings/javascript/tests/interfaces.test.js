@@ -1,4 +1,4 @@
-// What programs see of the interfaces: conversions, brands, argument counts, exceptions, and that what stands over the core follows it.
+// The interfaces as programs see them: conversions, brands, argument counts, exceptions, and objects that follow the core.
 import assert from "node:assert/strict";
 import test from "node:test";
 
@@ -68,7 +68,7 @@ test("exceptions have the standard's names and codes", () => {
   assert.equal(second.data, "text");
 });
 
-test("what is of the wrong type is a TypeError, and so is what is missing", () => {
+test("a value of the wrong type is a TypeError, and so is a missing one", () => {
   const { document, paragraph } = scene();
   const { appendChild } = Node.prototype;
   for (const does of [

@@ -64,7 +64,7 @@ test("what there is is counted", () => {
   assert.equal(held.length, 2);
 });
 
-test("what was moved by contents, normalizing and several nodes stays where it is held", async () => {
+test("nodes that were moved by contents, normalizing and several nodes stay if they are held", async () => {
   const document = createDocument();
   const held = [];
   for (let at = 0; at < 50; at++) {

@@ -58,7 +58,7 @@ test("after a call that did not end, none is answered", async () => {
   assert.equal(module.close(0), STUCK);
 });
 
-test("sessions are told by an index, which is used again", async () => {
+test("sessions are identified by an index, which is used again", async () => {
   const module = await opened(() => {});
   const numbers = () => new Uint32Array(module.memory.buffer, module.numbers(), 2);
   assert.equal(module.open(...OPEN), 0);

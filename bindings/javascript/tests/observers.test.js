@@ -1,4 +1,4 @@
-// Observers are told in a microtask, once for all that was done before it.
+// Observers are notified in a microtask, once for all changes before it.
 import assert from "node:assert/strict";
 import test from "node:test";
 
@@ -24,7 +24,7 @@ function twoInTurn(does, options = {}) {
   return told;
 }
 
-test("records are told in a microtask, in order", async () => {
+test("observers are notified in a microtask, with records in order", async () => {
   const document = createDocument();
   const told = [];
   const observer = new MutationObserver((records, its) => told.push({ records, its }));
@@ -49,7 +49,7 @@ test("records are told in a microtask, in order", async () => {
   assert.equal(told.length, 1);
 });
 
-test("records can be taken, and a disconnected observer is told nothing", async () => {
+test("records can be taken, and a disconnected observer is not notified", async () => {
   const document = createDocument();
   let calls = 0;
   const observer = new MutationObserver(() => calls++);
@@ -63,7 +63,7 @@ test("records can be taken, and a disconnected observer is told nothing", async 
   assert.equal(calls, 0);
 });
 
-test("what a callback changes is told in a further microtask", async () => {
+test("observers are notified of a callback's changes in a further microtask", async () => {
   const document = createDocument();
   const counts = [];
   const observer = new MutationObserver((records) => {
@@ -90,7 +90,7 @@ test("an observer whose records an earlier callback took is not called", async (
   assert.deepEqual(taken.map((it) => it.type), ["childList"]);
 });
 
-test("an observer that was let go before its turn is passed over", async () => {
+test("an observer that was released before its turn is passed over", async () => {
   const told = twoInTurn((second, document) => {
     const session = sessionOf(document);
     for (const [number, it] of session.observers) if (it.deref() === second) session.loseObserver(number);
@@ -99,7 +99,7 @@ test("an observer that was let go before its turn is passed over", async () => {
   assert.deepEqual(told, [["first", 1]]);
 });
 
-test("what a callback changes is told to a later observer in its turn, and to an earlier one in a further microtask", async () => {
+test("a later observer is notified of a callback's changes in its turn, and an earlier one in a further microtask", async () => {
   const told = twoInTurn((second, document) => document.appendChild(document.createComment("d")));
   await microtask();
   assert.deepEqual(told, [["first", 1], ["second", 2]]);
@@ -107,7 +107,7 @@ test("what a callback changes is told to a later observer in its turn, and to an
   assert.deepEqual(told, [["first", 1], ["second", 2], ["first", 1]]);
 });
 
-test("what a callback did before it threw counts for those that are told after it", async () => {
+test("changes that a callback made before it threw count for observers that are notified after it", async () => {
   const faults = [];
   const does = (second) => {
     second.disconnect();
@@ -119,7 +119,7 @@ test("what a callback did before it threw counts for those that are told after i
   assert.deepEqual(faults, ["fault"]);
 });
 
-test("what is taken out is watched by each observer until its own turn", async () => {
+test("a removed node is watched by each observer until its own turn", async () => {
   const { document, MutationObserver: Observer } = createWindow();
   const child = document.body.appendChild(document.createElement("p"));
   const told = [];

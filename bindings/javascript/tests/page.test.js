@@ -1,5 +1,5 @@
-// docs/javascript.md and README.md: their lines print what stands beside them; the table of docs/javascript-reference.md lists what there is, no more and
-// no less.
+// docs/javascript.md and README.md: their programs print the output beside them. The table of docs/javascript-reference.md lists all names that there are,
+// and no others.
 import assert from "node:assert/strict";
 import { spawnSync } from "node:child_process";
 import { readFileSync } from "node:fs";
@@ -20,13 +20,13 @@ const isConstant = (name) => /^[A-Z_]+$/u.test(name) && name !== "URL";
 
 const namesIn = (text) => [...text.matchAll(/`(\w+)`/gu)].map((it) => it[1]);
 
-test("the ten lines print what stands below them", () => {
+test("the ten lines print the output below them", () => {
   const [, program, due] = /```js\n(.*?)```\n\n```text\n(.*?)```/su.exec(page);
   const ran = spawnSync(process.execPath, ["--input-type=module", "-e", program], { cwd: PACKAGE, encoding: "utf8" });
   assert.equal(ran.stdout, due, ran.stderr);
 });
 
-test("the lines of the README print what stands beside them", () => {
+test("the lines of the README print the output beside them", () => {
   const [, program] = /```js\n(.*?)```/su.exec(readFileSync(new URL("../README.md", import.meta.url), "utf8"));
   const ran = spawnSync(process.execPath, ["--input-type=module", "-e", program], { cwd: PACKAGE, encoding: "utf8" });
   assert.equal(ran.stdout, / \/\/ (.*\n)/u.exec(program)[1], ran.stderr);

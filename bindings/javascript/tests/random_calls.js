@@ -1,5 +1,5 @@
 // Random calls of all interfaces: `node --expose-gc tests/random_calls.js COUNT [SEED]`. A refusal has to be one of the standard's; nothing else may
-// be thrown, what the tree says of a node has to fit from both sides, and the links that objects keep have to be those that the core has.
+// be thrown. A node's parent and siblings have to agree with the node, and the links that objects cache have to be those of the core.
 import assert from "node:assert/strict";
 import { setImmediate as turn } from "node:timers/promises";
 
@@ -145,7 +145,7 @@ const ASKING = [
   () => keepLists(),
 ];
 
-/** What a node's parent and siblings say of each other. */
+/** A node's parent and siblings agree with the node. */
 function fits() {
   const it = node();
   const { parentNode, nextSibling, previousSibling } = it;
@@ -184,7 +184,7 @@ function filled() {
   agrees(it);
 }
 
-// ---- What is kept beside the core has to be what the core says.
+// ---- The caches beside the core have to agree with the core.
 
 function agreesOnAttributes() {
   const it = node();
@@ -291,7 +291,7 @@ function call(group) {
   }
 }
 
-/** Lets most of what is held go, and begins with another Document. */
+/** Drops half of the objects that are held, and sometimes begins with another Document. */
 async function letGo() {
   for (const list of [nodes, ranges, traversals, lists]) list.splice(0, Math.ceil(list.length / 2));
   document = upTo(3) ? document : createDocument();

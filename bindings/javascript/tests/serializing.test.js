@@ -85,7 +85,7 @@ test("random trees are written as parse5 writes them", withParse5, () => {
   }
 });
 
-test("what is written is read as the same page", withParse5, () => {
+test("a page that is read and written is the same", withParse5, () => {
   const page = "<!DOCTYPE html><html><head><title>a &amp; b</title></head><body><p title=\"&lt;&quot;&gt;\">1 &lt; 2&nbsp;<br></p><svg><a xlink:href=\"#x\"></a></svg></body></html>";
   assert.equal(serialize(parse(page)), page);
 });
@@ -106,7 +106,7 @@ test("names of other namespaces are written by their prefixes, in each session b
   assert.deepEqual(written, [wanted, wanted]);
 });
 
-test("names are told once, wherever they are met first", () => {
+test("each name is passed to the module once, wherever it is met first", () => {
   const document = createDocument();
   const root = document.createElement("div");
   let wanted = "";
@@ -138,7 +138,7 @@ test("doctypes and instructions are written with names of any letters", () => {
   assert.equal(serialize(document), "<!DOCTYPE é\u{1f600}><?té\u{1f600} d&<>");
 });
 
-// ---- What is left out, what is as it is, and sizes.
+// ---- Content that is left out, raw texts, and sizes.
 
 test("void elements and raw text hold by what the element is", () => {
   const document = createDocument();

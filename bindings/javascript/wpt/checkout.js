@@ -8,8 +8,8 @@ const SECTIONS = ["dom/nodes", "dom/ranges", "dom/traversal"];
 // Folders that hold no tests: what tests load, and other kinds of tests.
 const NO_TESTS = new Set(["resources", "support", "reference", "crashtests", "tentative", "tools", "node_modules"]);
 
-// A test that does one of these is left out, since nothing of it can run: the reason, and what tells it in the code of the file, without
-// its comments. What a test asks for by a name that is not there is told when it runs (page/reasons.js).
+// A test that does one of these is left out, since nothing of it can run: the reason, and its sign in the code of the file, without
+// comments. A test that asks for an absent name gets the reason when it runs (page/reasons.js).
 const LEFT_OUT = [
   ["events", /\bdispatchEvent\b|\bcreateEvent\b|new \w*Event\(|addEventListener\(\s*['"](?!load|DOMContentLoaded|error|message)/],
   ["layout or styles", /getComputedStyle|getBoundingClientRect|getClientRects|elementFromPoint|\.(?:offset|client|scroll)(?:Width|Height|Top|Left)\b|styleSheets|document\.fonts/],
@@ -26,7 +26,7 @@ const LEFT_OUT = [
 // Tests that are left out by their names.
 const LEFT_OUT_BY_NAME = [
   ["selectors", /quer(?:y|ies)|matches|closest|NodeList-static/i],
-  ["scripts that run when they come in", /insertion-removing-steps/],
+  ["scripts that run when they are inserted", /insertion-removing-steps/],
   ["moving without removal", /moveBefore/],
   ["Attr nodes", /\/attributes[\w-]*\./],
   ["attributes that are reflected", /\/aria-/],

@@ -1,8 +1,8 @@
-// What is known of each file: how many subtests it has, and which of them do not pass, by the reason.
+// The expected results of each file: the number of its subtests, and the names of those that do not pass, by the reason.
 //
-// expectations.json has for each path { subtests, notApplicable: { reason: names }, differs: { reason: names } }. A name that ends with "*" stands for
-// all subtests whose names begin so. The harness's own failure stands as the subtest "(the file)". A file is known once its subtests are counted here;
-// of others a message may tell by itself why a subtest does not pass, and a name that is listed need not be there.
+// expectations.json has for each path { subtests, notApplicable: { reason: names }, differs: { reason: names } }. A name that ends with "*" matches
+// all subtests whose names begin so. The harness's own failure is listed as the subtest "(the file)". A file is known once its subtests are counted here.
+// In other files a subtest's message may be enough to find why it does not pass, and a listed name need not be there.
 import { readFileSync, writeFileSync } from "node:fs";
 
 import { reasonOf } from "./page/reasons.js";
@@ -70,7 +70,7 @@ export function judgeFile(result, expected) {
   return [...judgements, ...lost(result, expected, known.all, met)];
 }
 
-// What is listed of a file after a run: reasons that stand already are kept.
+// Returns the entry of a file after a run; reasons that are listed already are kept.
 function listed(result, expected) {
   const known = new Entries(expected);
   const entry = { subtests: result.subtests.length };

@@ -2,7 +2,7 @@
 import { Checkout } from "./checkout.js";
 import { REPORT } from "./report.js";
 
-// What is told of a file: its subtests as name, status and message; the harness's own status; the files that were looked for in vain.
+// Sends the result of a file: its subtests as name, status and message; the harness's own status; the files that were looked for in vain.
 function answer(result) {
   process.send(result, () => process.exit(0));
 }

@@ -13,8 +13,9 @@ import { listing, progress, summary } from "./table.js";
 const HELP = `usage: node bindings/javascript/wpt/run.js FOLDER [options]
 
 Runs each test file in dom/nodes, dom/ranges and dom/traversal of the checkout FOLDER that needs no layout, styles, events or shadow trees, and
-counts its subtests: passed, failed, not applicable and differing by the profile. Of a folder that has none of the three, all tests are run. What is known not to pass stands with its reasons in expectations.json, beside this script: another
-subtest that does not pass is a failure, and so is a listed one that does. The status is 0 where nothing failed.
+counts its subtests: passed, failed, not applicable and differing by the profile. Of a folder that has none of the three, all tests are run. Subtests that
+are known not to pass are listed with their reasons in expectations.json, beside this script. Another subtest that does not pass is a failure, and so is a
+listed one that does. The status is 0 if nothing failed.
 
   --only WORD      only files whose paths have this in them
   --jobs N         how many files are run at once (the processors, at most 4)

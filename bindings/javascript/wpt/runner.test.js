@@ -34,7 +34,7 @@ function run(words, environment = {}) {
 // The numbers of the last row of the table: files, subtests, passed, failed, not applicable, differ.
 const counts = (said) => /^all\s+(.*)$/m.exec(said)[1].trim().split(/\s+/).map((it) => Number(it.replaceAll(",", "")));
 
-test("the pages of our own pass, and what is not there is counted", { skip }, () => {
+test("the pages of our own pass, and absent features are counted", { skip }, () => {
   const { status, said } = run([TESTS, "--expect", EXPECTED]);
   assert.equal(status, 0, said);
   const [files, subtests, passed, failed, notApplicable, differs] = counts(said);
@@ -95,7 +95,7 @@ for (const [what, text] of [["replaced data are off by one", OFF_BY_ONE], ["a sp
   });
 }
 
-test("a file that does not end, one that fails, and one that the checkout can't serve are told", { skip }, () => {
+test("a file that does not end, one that fails, and one that the checkout can't serve are reported", { skip }, () => {
   const checkout = join(folder, "checkout");
   cpSync(join(TESTS, "resources"), join(checkout, "resources"), { recursive: true });
   const harness = '<script src="/resources/testharness.js"></script>\n<script src="/resources/testharnessreport.js"></script>\n';

@@ -1,4 +1,4 @@
-// Firefox without a window, spoken to by WebDriver BiDi over a WebSocket: what is asked of it is what stands on a page.
+// Firefox without a window, driven by WebDriver BiDi over a WebSocket. Tests read the content of a page from it.
 import { spawn, spawnSync } from "node:child_process";
 import { mkdtempSync, rmSync } from "node:fs";
 import { tmpdir } from "node:os";

@@ -17,7 +17,7 @@ Draws the page into FILE, a picture of 1200 by 800 points (docs/playground.png).
 `;
 const PICTURE = new URL("../../../../docs/playground.png", import.meta.url);
 
-// What is typed behind the dialogue's eleventh line, where its ranges are set.
+// The lines that are typed after the dialogue's eleventh line, when its ranges are set.
 const DIALOGUE = "ranges/ends_after_split";
 const SET = 11;
 const TYPED = [

@@ -1,5 +1,5 @@
-// Tests the playground: that each reply is the one of the dialogue, that token texts are those of docs/definitions.md, and, where Chromium and Firefox are
-// there, that what stands on the page is what the dialogue says. The page is opened from disk.
+// Tests the playground: each reply is the one of the dialogue, and token texts are those of docs/definitions.md. If Chromium and Firefox are installed, the
+// page, which is opened from disk, shows the dialogue's lines and replies.
 import assert from "node:assert/strict";
 import { spawnSync } from "node:child_process";
 import { existsSync, mkdtempSync, readdirSync, readFileSync, rmSync } from "node:fs";
@@ -128,7 +128,7 @@ describe("over the module", { skip }, () => {
       before(async () => { browser = await Firefox.open(); });
       after(() => browser?.close());
 
-      test("a dialogue is played, and what stands on the page is what the dialogue says", async () => {
+      test("a dialogue is played, and the page shows its lines and replies", async () => {
         for (const name of ["ranges/ends_after_split", "observers/two_told"]) {
           await browser.goTo(`${address}?dialogue=${name}`);
           const shown = (selector) => browser.value(`[...document.querySelectorAll(${JSON.stringify(selector)})].map((it) => it.textContent)`);
@@ -145,7 +145,7 @@ describe("over the module", { skip }, () => {
 
       const shown = (selector) => browser.value(`[...document.querySelectorAll(${JSON.stringify(selector)})].map((it) => it.textContent)`);
 
-      test("a dialogue is played, and what stands on the page is what the dialogue says", async () => {
+      test("a dialogue is played, and the page shows its lines and replies", async () => {
         for (const name of ["ranges/ends_after_split", "observers/two_told", "bad_input/ranges_refused"]) {
           await browser.goTo(`${address}?dialogue=${name}`);
           assert.deepEqual(await shown("#lines .command"), linesOf(name));
@@ -209,7 +209,7 @@ describe("over the module", { skip }, () => {
         assert.equal(await browser.value("location.href"), await browser.value("copied"));
       });
 
-      test("a link carries what was typed", async () => {
+      test("a link carries the typed command", async () => {
         await browser.goTo(`${address}?dialogue=ranges/ends_after_split&step=2`);
         await browser.click("#command");
         await browser.type('["createComment",0,"mine"]');

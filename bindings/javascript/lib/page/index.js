@@ -64,9 +64,14 @@ function emptyWindow({ global, beside, url }, report) {
 }
 
 /**
- * A window with a page of HTML. `url` is where the page is; `global` is the global object of a context, on which all is put; `beside` another window, whose
- * nodes may come into this one; `report` takes what listeners and observers throw where the window's `error` event was not canceled (else it is shown on
- * the console); `handlers` says that texts of attributes such as `onclick` are compiled and run, which they else are not.
+ * Creates a window with a page of HTML. Its options are:
+ *
+ * - `url`: the page's address;
+ * - `global`: the global object of a context, which becomes the window;
+ * - `beside`: another window, whose nodes may be inserted into this one;
+ * - `report`: a function that takes exceptions of listeners and observers if the window's `error` event was not canceled. The default shows them on the
+ *   console;
+ * - `handlers`: if true, texts of attributes such as `onclick` are compiled and run; otherwise they are not.
  */
 export function createPage(html = "", { url = "about:blank", report = shown, handlers = false, global, beside } = {}) {
   let page;

@@ -1,4 +1,4 @@
-/** Objects whose properties are indices and names (Web IDL's legacy platform objects): what is asked of them is asked of what they know. */
+/** Objects whose properties are indices and names (Web IDL's legacy platform objects). Each access is delegated to their state. */
 
 const PAST = 4294967295;
 
@@ -11,8 +11,11 @@ function indexOf(key) {
 }
 
 /**
- * The traps of such an object. What it knows has `length` and `at(index)` where it has indices, and `names()`, `named(name)` where it has names, with
- * `setNamed` and `deleteNamed` where those are for writing; `isOverriding` where its names come before what the interface has.
+ * The traps of such an object. Its state has:
+ *
+ * - `length` and `at(index)` if the object has indices;
+ * - `names()` and `named(name)` if it has names, and `setNamed` and `deleteNamed` if these can be written;
+ * - `isOverriding` if its names take precedence over the members of the interface.
  */
 export class Traps {
   #its;
@@ -94,13 +97,13 @@ export class Traps {
 
 const known = new WeakMap();
 
-/** What such an object knows, of a class. */
+/** Returns the state of such an object if it is of a class. */
 export function knownOf(it, Kind) {
   const its = typeof it === "object" && it !== null ? known.get(it) : undefined;
   return its instanceof Kind ? its : undefined;
 }
 
-/** An object of an interface of a realm, with what it knows. */
+/** Makes an object of an interface of a realm, with a state. */
 export function makeLegacy(realm, name, its) {
   const made = new Proxy(Object.create(realm.interfaces[name].prototype), new Traps(its));
   known.set(made, its);

@@ -1,4 +1,4 @@
-/** Markup in and out: `innerHTML` and its like, templates, DOMParser, XMLSerializer (HTML Standard, section 8.5). What is read and written is the package's. */
+/** Markup in and out: `innerHTML` and similar members, templates, DOMParser, XMLSerializer (HTML Standard, section 8.5). The package parses and serializes. */
 import { parse, parseFragment, parseXML, serialize, serializeXML } from "../index.js";
 import {
   attributeNames,
@@ -89,7 +89,7 @@ function setOuter(element, text) {
   parent.replaceChild(fragmentOf(isElement(parent) ? parent : documentOf(element).createElement("body"), text), element);
 }
 
-/** By the word for the place: the element whose content the text is, and how what is read comes in. */
+/** By the word for the position: whether the text is content of the element's parent, and how the parsed nodes are inserted. */
 const PLACES = {
   beforebegin: { isOutside: true, put: (element, fragment) => parentOf(element).insertBefore(fragment, element) },
   afterbegin: { put: (element, fragment) => element.insertBefore(fragment, element.firstChild) },

@@ -1,4 +1,4 @@
-/** A page: a window, and what it knows beside its Document: who has the focus, what is reported, where it is. */
+/** A page: a window, and its state beside its Document: the focus, the reports, the address. */
 import { setPage, stillNodeList } from "./core.js";
 import { createOwn } from "./events.js";
 import { Handlers } from "./handlers.js";

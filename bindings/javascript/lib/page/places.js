@@ -28,7 +28,7 @@ export class Places {
     documentKnown(this.page.document).url = this.url.href;
   }
 
-  /** Puts an entry in place of the current one, or behind it, where what was behind it goes. */
+  /** Replaces the current entry, or inserts one after it and removes the later ones. */
   put(entry, isReplacing) {
     if (isReplacing) this.#entries[this.#at] = entry;
     else this.#entries.splice(++this.#at, Infinity, entry);
@@ -55,7 +55,7 @@ export class Places {
     return refuse("NotSupportedError", `there is no network to go to ${url.href}`);
   }
 
-  /** Goes back or forth by so many entries, later. */
+  /** Goes back or forward by a number of entries, in a later turn. */
   go(steps) {
     this.page.later(() => {
       const to = this.#at + steps;

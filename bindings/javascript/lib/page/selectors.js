@@ -112,7 +112,7 @@ function withId(node, selector) {
   return found !== null && isBelow(found, node) && selector.test(found) ? [found.object] : [];
 }
 
-/** The first elements below a node that fit, so many at most. */
+/** Returns the first elements below a node that fit, at most `most` of them. */
 function fitting(root, { test }, most) {
   const found = [];
   for (let it = after(root, root); it !== null; it = after(it, root)) {

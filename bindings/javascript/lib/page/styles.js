@@ -63,7 +63,7 @@ export const styleAttribute = {
   },
 };
 
-// ---- What is computed: what the attribute says, and how elements are shown by their names alone.
+// ---- Computed styles: those of the attribute, and the display that an element has by its name alone.
 
 const setOf = (names) => new Set(names.trim().split(/\s+/));
 const NONE = setOf("area base basefont datalist head link meta noembed noframes param rp script style template title");
@@ -83,7 +83,7 @@ function displayOf(element) {
   return BLOCK.has(local) ? "block" : (OTHERS[local] ?? "inline");
 }
 
-/** Whether an element is shown at all: neither it nor what it is in is left out of what is displayed, nor is it invisible. */
+/** Returns whether an element is shown: neither its own display nor an ancestor's is none, and it is visible. */
 export function isShown(element) {
   for (let it = element; it; it = it.parentElement) if ((it.hasAttribute("style") ? computedStyle(it).display : displayOf(it)) === "none") return false;
   return !hasStyleAbove(element) || computedStyle(element).visibility === "visible";

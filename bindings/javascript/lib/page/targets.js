@@ -185,7 +185,7 @@ export function removeListener(target, type, callback, options) {
 
 // ---- Dispatch.
 
-/** What stands above a target on an event's way. */
+/** Returns the target above another one on an event's path, or null. */
 function above(target, type) {
   if (!isNode(target)) return null;
   if (kindOf(target) !== DOCUMENT) return parentOf(target);

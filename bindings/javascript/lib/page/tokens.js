@@ -81,7 +81,7 @@ function replace(list, token, other) {
 
 function supports(list, token) {
   const { supported } = tokensOf(list);
-  if (!supported) refuseType("these tokens have no list of what is supported");
+  if (!supported) refuseType("this attribute has no list of supported tokens");
   return supported.includes(token.toLowerCase());
 }
 

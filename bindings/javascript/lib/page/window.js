@@ -1,4 +1,4 @@
-/** What a window has: itself, timers of the host, its place, listeners, and what is computed without a layout. */
+/** The members of a window: itself, timers of the host, its address, listeners, and results that need no layout. */
 import { entriesOf } from "./html/forms.js";
 import { cloned } from "./cloning.js";
 import { known } from "./core.js";

@@ -23,7 +23,7 @@ function wrongDialogues() {
 
 const turn = () => new Promise((ready) => setTimeout(ready));
 
-/** The bytes that are held after each of some rounds, in which so many nodes are made and dropped. */
+/** Returns the bytes that are held after each round. A round makes and drops `count` nodes. */
 async function levels(rounds, count) {
   const document = createDocument();
   const found = [];

@@ -24,7 +24,7 @@ function refuses(target, name, words) {
   assert.equal(Object.getOwnPropertyDescriptor(target, name)?.value, undefined);
 }
 
-test("without a page, what is a page's refuses, and says what it is", () => {
+test("without a page, a page's names refuse, and say which feature is left out", () => {
   const document = createDocument();
   const element = document.createElement("p");
   refuses(element, "attributes", /^NotSupportedError: Element\.attributes is not there: Attr nodes are left out$/);
@@ -53,7 +53,7 @@ test("a window that says so leaves names to its program", () => {
   assert.equal(document.createElement("p").attributes, undefined);
 });
 
-test("what is thrown is of the window's own realm", () => {
+test("exceptions are of the window's own realm", () => {
   const window = createWindow();
   assert.throws(() => window.document.createElement("p").attributes, window.DOMException);
 });

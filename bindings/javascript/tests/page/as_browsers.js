@@ -231,7 +231,7 @@ const elements = {
     },
     [["subtitles", 0], [-1, 6, 85], [null, "auto"], [null, false], [null, null], [0, 0], [""], [null]],
   ],
-  "texts as they are shown, of what is not rendered": [
+  "texts as they are shown, of elements that are not rendered": [
     ({ document }) => {
       const [one, other] = [document.createElement("div"), document.createElement("p")];
       one.innerText = "a\n\nb";

@@ -23,7 +23,7 @@ const attributes = {
     element.setAttribute("a", "4");
     return [...said, attr.value, element.getAttributeNode("a") === attr];
   },
-  "an Attr sets its attribute, and is told to observers"({ document, MutationObserver }) {
+  "an Attr sets its attribute, and observers are notified"({ document, MutationObserver }) {
     const element = document.createElement("p");
     element.setAttribute("a", "1");
     const observer = new MutationObserver(() => {});
@@ -221,7 +221,7 @@ const selectors = {
       [all("p:empty"), all("li:nth-last-of-type(1)"), all(":is(.s, [title])"), all("ul:has(.s)").length, all("body :where(p)")],
     ];
   },
-  "selectors within an element see what stands above it"({ document }) {
+  "selectors within an element see its ancestors"({ document }) {
     document.body.innerHTML = "<div id=o><div id=i><p>x</p></div></div>";
     const inner = document.getElementById("i");
     return [inner.querySelectorAll("div p").length, inner.querySelectorAll(":scope > p").length, inner.querySelectorAll(":scope p").length, inner.querySelector("#o"), inner.querySelector("#i")];
@@ -277,7 +277,7 @@ const events = {
     const answer = element.dispatchEvent(event);
     return [said, answer, event.target === element, event.currentTarget, event.eventPhase, event.composedPath(), event.isTrusted];
   },
-  "what does not bubble is told below and here"({ document, Event }) {
+  "an event that does not bubble calls listeners on its way down and at its target"({ document, Event }) {
     const said = [];
     const element = document.body.appendChild(document.createElement("p"));
     document.body.addEventListener("x", () => said.push("up"));
@@ -440,7 +440,7 @@ const events = {
     box.click();
     return [...said, box.checked];
   },
-  "a click on what is disabled"({ document }) {
+  "a click on a disabled button"({ document }) {
     document.body.innerHTML = "<button disabled>b</button><fieldset disabled><legend><button>c</button></legend><button>d</button></fieldset>";
     const said = [];
     document.body.addEventListener("click", (event) => said.push(event.target.textContent));
@@ -496,7 +496,7 @@ const views = {
     element.removeAttribute("style");
     return [...said, style.height, style === element.style];
   },
-  "custom properties, importance, and what is no value"({ document }) {
+  "custom properties, importance, and a text that is no value"({ document }) {
     const element = document.createElement("p");
     element.style.setProperty("--x", "1");
     element.style.setProperty("color", "blue", "important");
@@ -577,7 +577,7 @@ const views = {
     selection.setBaseAndExtent(text, 1, text, 0);
     return [...said, selection.anchorOffset, selection.focusOffset, selection.isCollapsed];
   },
-  "what is computed of an element that is shown, and of one that is not"({ document, window }) {
+  "computed styles of an element that is shown, and of one that is not"({ document, window }) {
     document.body.innerHTML = "<p style='visibility: hidden; color: red'><b>x</b></p><div hidden></div><table><tr><td></table><ul><li></ul><script></scr" + "ipt>";
     const of = (selector) => window.getComputedStyle(document.querySelector(selector));
     return [
@@ -638,7 +638,7 @@ const forms = {
     const { elements: its, length, method } = form;
     return [its.length, length, its.a.value, method, its[0].form === form, [...new window.FormData(form)], document.forms.length];
   },
-  "sending is told, and can be canceled"({ document }) {
+  "sending dispatches events, and can be canceled"({ document }) {
     document.body.innerHTML = "<form><input required name=a><button>b</button></form>";
     const form = document.querySelector("form");
     const said = [];

@@ -20,7 +20,7 @@ async function answer(does, window) {
 
 const skip = skipWithout(...NEEDED);
 
-/** Tests a case: that both answers are the same, or differ where a reason is told. */
+/** Tests a case: both answers have to be the same, or to differ if there is a reason. */
 function compared(t, name, reason, does, due) {
   return t.test(reason ? `${name}, where it differs: ${reason}` : name, async () => {
     const [ours, theirs] = [await answer(does, await WINDOWS.page()), await due()];

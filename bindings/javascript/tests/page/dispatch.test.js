@@ -10,7 +10,7 @@ const skip = skipWithout(...NEEDED);
 const DEPTH = 100;
 const EACH = 100;
 
-/** A path of so many elements below the body, the innermost last. */
+/** Returns a path of DEPTH elements from the body down, the innermost last. */
 function pathIn({ document }) {
   const path = [document.body];
   while (path.length < DEPTH) path.push(path.at(-1).appendChild(document.createElement("p")));
@@ -41,7 +41,7 @@ test("10,000 listeners on a path of 100 are called in the standard's order", { s
   assert.deepEqual(said, due());
 });
 
-/** While a dispatch runs, listeners come and go: what comes is called where its element is still ahead, what goes is not called. */
+/** Adds and removes listeners while a dispatch runs. An added one is called if its element is still ahead; a removed one is not called. */
 function changing(window) {
   const path = pathIn(window);
   const said = [];
@@ -105,7 +105,7 @@ test("memory is level where listeners come and go", { skip: skip || (globalThis.
   assert.ok(grown < 2 ** 20, `${grown}`);
 });
 
-/** Dispatches once along 10,000 listeners, each of which goes while it runs, and has another one come and go. */
+/** Dispatches once along 10,000 listeners. Each removes itself while it runs, and adds and removes another one. */
 function crowd(window, path) {
   let called = 0;
   for (const element of path) {

@@ -1,4 +1,4 @@
-// docs/javascript.md of a page: its program prints what stands below it, and what the table of the reference names is there.
+// docs/javascript.md of a page: its program prints the output below it, and the names in the reference's table are there.
 import assert from "node:assert/strict";
 import { spawnSync } from "node:child_process";
 import { readFileSync } from "node:fs";
@@ -13,7 +13,7 @@ const page = textOf("javascript");
 const own = /^## A page for tests\n(.*?)^## /msu.exec(page)[1];
 const skip = skipWithout(...NEEDED);
 
-test("the program prints what stands below it", { skip }, () => {
+test("the program prints the output below it", { skip }, () => {
   const [, program, due] = /```js\n(.*?)```\n\n```text\n(.*?)```/su.exec(own);
   const ran = spawnSync(process.execPath, ["--input-type=module", "-e", program], { cwd: PACKAGE, encoding: "utf8" });
   assert.equal(ran.stdout, due, ran.stderr);

@@ -79,7 +79,7 @@ test("timers are the host's, and what they throw is reported", { skip }, async (
   assert.deepEqual(said, ["later", "number"]);
 });
 
-test("selectionchange is told once for what was done before", { skip }, async () => {
+test("selectionchange is dispatched once for all changes before it", { skip }, async () => {
   const window = createPage("<p>abc</p>");
   let told = 0;
   window.document.addEventListener("selectionchange", () => told++);

@@ -103,7 +103,7 @@ const selectors = {
     },
     [1, 1, 1, 2, "SyntaxError", 2, "SyntaxError"],
   ],
-  "what was found stands still, and what is found next follows": [
+  "a found list stays as it is, and the next one follows changes": [
     ({ document }) => {
       document.body.innerHTML = "<ul><li class=on>1</li><li>2</li><li>3</li></ul>";
       const list = document.querySelector("ul");

@@ -1,5 +1,5 @@
-// What testers of pages do, as cases of their own kind (see cases.js): forms that are filled in and sent, lists that listen at their root, keys, selections,
-// turns of the event loop, Documents that are parsed, observers, markup, choices, styles, tables, live lists, faults, texts that are typed, walks.
+// Jobs of tests of pages, as cases of their own kind (see cases.js). Forms are filled in and sent, lists listen at their root, Documents are parsed, and
+// texts are typed. Other cases are of keys, selections, turns of the event loop, observers, markup, choices, styles, tables, live lists, faults and walks.
 
 export const TESTERS = {
   async "a form that is filled in, checked and sent"({ document, window, Event }) {
@@ -122,7 +122,7 @@ export const TESTERS = {
     range.deleteContents();
     return [...said, document.body.innerHTML, range.collapsed, Node.TEXT_NODE, selection.containsNode(mark, true)];
   },
-  async "turns: what comes before what"({ document, window, MutationObserver }) {
+  async "turns: the order of callbacks"({ document, window, MutationObserver }) {
     const said = [];
     const element = document.body.appendChild(document.createElement("p"));
     new MutationObserver((all) => said.push(`observed ${all.length}`)).observe(element, { childList: true, characterData: true, subtree: true });
@@ -187,7 +187,7 @@ export const TESTERS = {
     made.documentElement.append(made.createElementNS("urn:y", "y:z"), "t");
     return [...said, new XMLSerializer().serializeToString(made), made.documentElement.innerHTML];
   },
-  async "what observers are told"({ document, MutationObserver }) {
+  async "records of observers"({ document, MutationObserver }) {
     document.body.innerHTML = "<section><p class=a title=t>text</p><ul><li>1<li>2</ul></section>";
     const [section, paragraph, list] = ["section", "p", "ul"].map((it) => document.querySelector(it));
     const said = [];
@@ -393,7 +393,7 @@ export const TESTERS = {
       }
     });
   },
-  async "what is typed, and what is selected of it"({ document, window, Event, InputEvent }) {
+  async "typed texts, and selections of them"({ document, window, Event, InputEvent }) {
     document.body.innerHTML = "<input value=hello><textarea>one two</textarea><input type=number value=5 min=1 max=9 step=2><input type=range value=3 max=10><input type=date value=2020-02-30>";
     const [text, number, range, date] = document.querySelectorAll("input");
     const area = document.querySelector("textarea");

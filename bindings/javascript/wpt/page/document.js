@@ -45,7 +45,7 @@ function reflected(name) {
   };
 }
 
-// An attribute that is an address: it is told whole, by the page's own.
+// An attribute that is an address; its property is absolute, by the page's own address.
 function address(name) {
   return {
     get() {

@@ -1,4 +1,4 @@
-// The frames of a page: a page of its own for each iframe in the document, opened when it has come in or when it was given another source.
+// The frames of a page: a page of its own for each iframe in the document, opened when the iframe was inserted or was given another source.
 import { Page } from "./page.js";
 
 export class Frames {

@@ -21,7 +21,7 @@ const byName = new Map(Object.entries(NAMES).flatMap(([its, names]) => names.spl
 
 const isOfHTML = (it, global) => it instanceof global.Element && it.namespaceURI === HTML;
 
-// An interface whose objects are told by a test.
+// Defines an interface that finds its objects by a predicate.
 function told(global, name, is) {
   const Interface = global.Function(`return function ${name}() { throw new TypeError("Illegal constructor"); }`)();
   Object.defineProperty(Interface, Symbol.hasInstance, { value: (it) => isOfHTML(it, global) && is(it.localName) });

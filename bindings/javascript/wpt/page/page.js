@@ -9,7 +9,7 @@ import { completeWindow } from "./window.js";
 const ORIGIN = "http://page.test";
 
 export class Page {
-  // `host` has the checkout, a function that opens windows, the text of the report, and what is told of missing files and of results.
+  // `host` has the checkout, a function that opens windows, the text of the report, and callbacks for missing files and for results.
   constructor(host, address, parent = null) {
     this.host = host;
     this.parent = parent;
@@ -50,7 +50,7 @@ export class Page {
     this.step();
   }
 
-  // Runs something of the page; what it throws is told to the page.
+  // Runs a function of the page; reports its exception to the page.
   run(action) {
     try {
       action();

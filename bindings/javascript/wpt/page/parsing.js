@@ -5,7 +5,7 @@ import { load } from "../libraries.js";
 // Ends once the microtasks that wait have run, and those that they left, as they do before and after each script of a page.
 const afterMicrotasks = () => new Promise((ready) => process.nextTick(ready));
 
-// Fills a document with a page; `runScript` is called with each script element once its end tag is read. What stands before the first script is there
+// Fills a document with a page; `runScript` is called with each script element once its end tag is read. The nodes before the first script are inserted
 // at once.
 export async function parseHTML(document, text, runScript) {
   const { Parser } = load("parse5");

@@ -1,5 +1,5 @@
-// Why subtests do not pass. Here stand the names of the standard that neither the core nor the page has, and what each belongs to: whoever uses one is
-// told so, and the subtest counts as not applicable, for that reason. A name that the player has is left as it is.
+// Why subtests do not pass: the names of the standard that neither the core nor the page has, with the feature that each belongs to. The use of a name
+// throws an error with this reason, and the subtest counts as not applicable. A name that the player has is left as it is.
 
 const SIGN = "not in this profile: ";
 

@@ -66,7 +66,7 @@ function selection() {
   };
 }
 
-// DOMParser: a Document of its own for each text, whose scripts do not run. What is no XML is an error here, and no Document that tells of one.
+// DOMParser: a Document of its own for each text, whose scripts do not run. A text that is no XML throws here, and makes no Document with the error.
 function parser(page) {
   const { implementation } = page.document;
   function emptied(document) {

@@ -1,7 +1,7 @@
 // The commands by their groups, with their arguments, as the page was made with them; "?" marks one that may be null.
 export const groups = () => globalThis.groups ?? {};
 
-// What stands for an argument until it is typed over.
+// The text of an argument until it is typed over.
 const STANDS_FOR = {
   document: "0", range: "0", other: "0", static: "0", iterator: "0", walker: "0", observer: "0", offset: "0", count: "1", how: "0", show: "4294967295",
   deep: "true", to_start: "true", "force?": "null", "child?": "null", filter: "[]", options: '{"childList":true,"subtree":true}', move: '"nextNode"',

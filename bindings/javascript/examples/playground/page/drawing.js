@@ -34,9 +34,9 @@ function rowOf(row, isNew) {
 
 const keysOf = (step) => new Set(step ? step.trees.flatMap(({ root, rows }) => rows.map((row) => `${root} ${JSON.stringify(row)}`)) : []);
 
-// The trees, with what is not as it was a step before marked.
+// Draws the trees. Rows that differ from those of the step before are marked.
 export function trees(step, before) {
-  if (step.isSilent) return [element("p", "none", "The lines of this session may not be as long as a question, so what stands in it can't be asked.")];
+  if (step.isSilent) return [element("p", "none", "The lines of this session may not be as long as a question, so its content can't be asked for.")];
   const known = keysOf(before);
   return step.trees.map(({ root, rows }) => {
     const isNew = (row) => Boolean(before) && !known.has(`${root} ${JSON.stringify(row)}`);

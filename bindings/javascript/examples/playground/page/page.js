@@ -1,4 +1,4 @@
-// The page: which lines are played, which step is shown, and what is typed or clicked.
+// The page: the lines that are played, the step that is shown, typed commands and clicks.
 import { callOf } from "./calls.js";
 import { groups, openPlace, template } from "./commands.js";
 import { dialogue, names } from "./dialogues.js";
@@ -8,7 +8,7 @@ import { play as played } from "./play.js";
 
 const part = (id) => document.getElementById(id);
 
-// What is played: the first `count` lines of a dialogue (all of them where it is null), and then lines of one's own. Each step is what a line left.
+// The played lines: the first `count` lines of a dialogue (all if it is null), and then lines of one's own. Each step is the state that a line left.
 const state = { name: null, count: null, more: [], steps: [], at: 0 };
 
 const MOST_LINES = 500;
@@ -71,7 +71,7 @@ function show(at) {
   for (const id of ["forward", "last"]) part(id).disabled = at === state.steps.length - 1;
 }
 
-// Adds a command behind the step that is shown; what was behind it goes.
+// Adds a command after the step that is shown, and removes the later ones.
 function add(line) {
   const own = state.steps.length - 1 - state.more.length;
   const count = state.name === null ? 0 : Math.min(state.at, own);
@@ -162,7 +162,7 @@ function drawDialogues() {
   }
 }
 
-// A link that carries what is played, and the step that is shown, behind the sign # of the address.
+// Returns a link with the played lines and the shown step, after the sign # of the address.
 function linkTo({ name, count, more, at }) {
   return `#${new URLSearchParams(Object.entries({ dialogue: name, count, step: at, lines: more.length ? JSON.stringify(more) : null }).filter(([, it]) => it !== null))}`;
 }

@@ -1,4 +1,4 @@
-// Plays command lines in a session of their own, and asks after each what is there. Each reply is the core's; nothing is known here of what a command does.
+// Plays command lines in a session of their own, and asks for the session's state after each. Each reply is the core's; this file has no rules of commands.
 import { Session } from "../../../lib/index.js";
 import { tokenText } from "./token_text.js";
 
@@ -42,7 +42,7 @@ class Asking {
     return found;
   }
 
-  // What is there now.
+  // Returns the session's state.
   state() {
     const ranges = this.allOf("range");
     const roots = this.allOf("root").filter(([node, root]) => node === root).map(([node]) => node);

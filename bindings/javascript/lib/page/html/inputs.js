@@ -1,4 +1,4 @@
-/** Inputs (HTML Standard, section 4.10.5): values by their types, boxes, and what is selected of a text. */
+/** Inputs (HTML Standard, section 4.10.5): values by their types, boxes, and selections of a text. */
 import { convertible, pageOf, realmOf, refuse, refuseOther, refuseType } from "../core.js";
 import { dateNumber, hasDate, setDateNumber, valueAsDate } from "./dates.js";
 import { flags, oneOf, sending, text, texts, url, whole } from "./reflect.js";
@@ -79,7 +79,7 @@ const VALUES = {
 
 const value = { type: "DOMString or empty", get: (input) => VALUES[modeOf(input)].get(input), set: (input, its) => VALUES[modeOf(input)].set(input, its) };
 
-/** Follows a change of the type: where a value is an attribute from now on, what was typed becomes that attribute. */
+/** Follows a change of the type: if a value is an attribute from now on, the typed text becomes that attribute. */
 export function typeChanged(input) {
   const state = stateOf(input);
   const { value: typed } = state;
@@ -134,7 +134,7 @@ export const boxes = {
   },
 };
 
-// ---- What is selected of a text.
+// ---- Selections of a text.
 
 const SELECTABLE = ["text", "search", "url", "tel", "password"];
 const canSelect = (control) => isNamed(control, "textarea") || SELECTABLE.includes(typeOf(control));
@@ -167,13 +167,13 @@ const selected = (name, set, type = "unsigned long") => ({
   set: (control, its) => set(control, its, selectionOf(control)),
 });
 
-/** Where an end of the selection is when a part of the text has become another one: what was within it comes to one of the part's ends. */
+/** Returns the offset of an end of the selection after a part of the text was replaced; an end within the part moves to `within`. */
 function moved(at, { from, to, newTo }, within) {
   if (at > to) return at + newTo - to;
   return at > from ? within : at;
 }
 
-/** What is selected when a part of a text was replaced, by the word that was given. */
+/** The start and end of the selection after a part of a text was replaced, by the given mode. */
 const SELECTED_AFTER = {
   select: (its, { from, newTo }) => [from, newTo],
   start: (its, { from }) => [from, from],

@@ -208,7 +208,7 @@ function svgInterface(local) {
 
 const BY_NAMESPACE = { [HTML]: interfaceOf, [SVG]: svgInterface, [MATHML]: () => "MathMLElement" };
 
-/** Elements of which the page keeps something that goes with a copy. */
+/** Elements whose state in the page is copied with them. */
 const KEPT = new Set(["input", "textarea", "option", "select"]);
 
 /** Makes the interfaces of a realm, and has it make elements of them. */

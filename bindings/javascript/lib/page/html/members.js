@@ -51,7 +51,7 @@ export const DOMRect = known({
 /** The rectangle of anything. */
 const zeroRect = (node) => makeThing(realmOf(node), "DOMRect", new RectIs(0, 0, 0, 0));
 
-// ---- Scrolling, which moves nothing and keeps what it is told.
+// ---- Scrolling, which moves nothing and stores the values that are set.
 
 const scrolls = new WeakMap();
 
@@ -173,7 +173,7 @@ function click(element) {
   pageOf(element).click(element);
 }
 
-// ---- Texts as they are shown. Nothing is rendered here, so what is read is the text content, as the standard says.
+// ---- Texts as they are shown. Nothing is rendered here, so the getters return the text content, as the standard says.
 
 function renderedText(element, value) {
   const document = element.ownerDocument;

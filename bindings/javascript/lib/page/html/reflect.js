@@ -32,7 +32,7 @@ function wholeIn(written) {
   return found ? Number(found[1]) : null;
 }
 
-/** A whole number; `least` is the smallest that counts, and what is below it may not be set. */
+/** A whole number; `least` is the smallest valid one. A smaller one in the attribute counts as absent, and may not be set. */
 export const whole = (name, absent = 0, least = -Infinity) => ({
   type: "long",
   get(element) {

@@ -32,7 +32,7 @@ function stepsOf(input) {
   return { size: size > 0 ? size : 1, from: numberOr(input.getAttribute("min"), numberOr(input.getAttribute("value"), 0)) };
 }
 
-/** (of decimal fractions in binary, what is beyond 12 digits says nothing) */
+/** (digits beyond the 12th of a decimal fraction in binary are noise) */
 const rounded = (number) => Number(number.toPrecision(12));
 const stepsIn = (number, { size, from }) => rounded((number - from) / size);
 const isAligned = (number, steps) => Number.isInteger(stepsIn(number, steps));
@@ -45,7 +45,7 @@ export function isBesideSteps(input) {
   return !Number.isNaN(number) && steps !== null && !isAligned(number, steps);
 }
 
-/** Where so many steps lead, up or down: into the bounds. */
+/** Returns the value `count` steps up, or down if `count` is negative, within the bounds. */
 function stepped(before, count, steps, { least, most }) {
   const round = count < 0 ? Math.floor : Math.ceil;
   const to = isAligned(before, steps) ? rounded(before + count * steps.size) : aligned(before, steps, round);
@@ -53,7 +53,7 @@ function stepped(before, count, steps, { least, most }) {
   return to > most ? aligned(most, steps, Math.floor) : to;
 }
 
-/** Goes so many steps up, or down for a sign of -1. */
+/** Returns a method that goes a number of steps up, or down if `sign` is -1. */
 export function step(sign) {
   return (input, count) => {
     const steps = isNumeric(input) ? stepsOf(input) : null;

@@ -70,14 +70,14 @@ const MESSAGES = { valueMissing: "Please fill out this field.", customError: nul
 
 const faultsOf = (control) => Object.keys(FAULTS).filter((name) => FAULTS[name](control));
 
-/** Whether a control meets its constraints; where it does not, it is told that it is invalid. */
+/** Returns whether a control meets its constraints; if not, dispatches an event `invalid` to it. */
 export function checkValidity(control) {
   if (!willValidate(control) || faultsOf(control).length === 0) return true;
   pageOf(control).tell(control, "Event", "invalid", { cancelable: true });
   return false;
 }
 
-/** What selectors ask of it: whether a control that is checked meets its constraints, and whether all of a form do; null for what is never checked. */
+/** Returns, for selectors, whether a control meets its constraints, or all controls of a form or fieldset do; null for an element that is never checked. */
 export function isValid(element) {
   if (isNamed(element, "form")) return controlsOf(element).every((it) => isValid(it) !== false);
   if (isNamed(element, "fieldset")) return [...element.elements].every((it) => isValid(it) !== false);

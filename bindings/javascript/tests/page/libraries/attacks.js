@@ -1,5 +1,5 @@
-// Known ways to smuggle a script past a sanitizer, each in its shortest form: handlers, addresses that run, elements that load, contexts that change how
-// the rest is read, and names that hide what a form has.
+// Known ways to smuggle a script past a sanitizer, each in its shortest form. They use handlers, addresses that run, elements that load, contexts that
+// change how the rest is read, and names that hide members of a form.
 export const ATTACKS = [
   "<p onclick=alert(1)>x</p>",
   "<a href='javascript:alert(1)'>x</a>",

@@ -1,5 +1,5 @@
-// What is done with each library: its main job and changes after it. Each scene gets a window whose names are global, and answers what was made; `timed`
-// takes what is done and measured, by the processor time of this process, and `turns` says how often that is.
+// A scene of each library: its main job and changes after it. Each scene gets a window whose names are global, and returns what it made. `timed` runs a
+// function and measures it by the processor time of this process; `turns` is the number of times.
 import { createRequire } from "node:module";
 
 import { ATTACKS } from "./attacks.js";
