@@ -1,7 +1,7 @@
 """The layers of crates.txt, which graphviz (`dot`) draws as docs/layers.svg.
 
-A box is a crate, with what SAYS has to say of it. An arrow leads to each crate that it lists, but to dom_model, which nearly all list and which is drawn
-as the ground; and not to those that another crate which it lists stands on as well.
+A box is a crate, with its words in SAYS. Arrows lead to the crates that it lists. There is none to a crate that another of these depends on, and none to
+dom_model, which nearly all list, and which is drawn as the ground.
 """
 import html
 import re

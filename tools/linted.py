@@ -1,8 +1,8 @@
 #!/usr/bin/env python3
 """Checks the form of sources by the linters of each language, and that the man page and the completions of domserve have its options.
 
-The options are read from the source `options.rt` of their crate, with their bounds and defaults; --help and, where the source has a version, --version are
-clap's own. What this machine has no tool for is left out, with a line that says so. With --write it lays the sources in C out.
+The options are read from the source `options.rt` of their crate, with their bounds and defaults. --help is clap's own, and so is --version if the source
+has a version. Tests whose tools this machine lacks are left out, with a line that says so. With --write it lays the sources in C out.
 """
 import argparse
 import glob
@@ -133,11 +133,11 @@ def units():
 
 
 def lacking(tools):
-    """Why a linter is not run here, or None."""
+    """Returns why a linter is not run here, or None."""
     return None if not tools or any(shutil.which(it) for it in tools) else f"there is no {' and no '.join(tools)}"
 
 
-# What each test is, the tools of which one is enough, and the test.
+# The name of each test, its tools (one of them is enough), and the test.
 TESTS = (
     ("the man page has the options", (), man_page),
     ("the completions have the options", (), completions),

@@ -222,7 +222,7 @@ def table_of_commands(_):
 
 
 def example_of_help(program):
-    """The example that --help shows prints what stands below it."""
+    """The example that --help shows prints the lines below it."""
     shown = run(program, "--help")[1].decode().partition("Example:\n")[2].partition("\n\n")[0]
     if not shown:
         raise Wrong("there is no example")

@@ -1,9 +1,9 @@
 """Checks the quotes of sources on pages.
 
 Each page CALLING.md has a block marked as rust, and each such block has to be in one file of crates/uses/src word for word. These files are proved, so a
-page shows no unchecked code. Its blocks marked as text are contracts of the crate: each function or trait is quoted with all its clauses as the sources
-have them (tools/contracts.py), and these are written anew; the page decides which functions it quotes. The blocks of docs/trust.md marked as text have to
-be in the sources or the definitions of a crate.
+page shows no unchecked code. Its blocks marked as text are contracts of the crate. They quote functions and traits with all their clauses, as the sources
+have them (tools/contracts.py), and are written anew. The page decides which functions it quotes. The blocks of docs/trust.md marked as text have to be in
+the sources or the definitions of a crate.
 """
 
 import glob
@@ -19,12 +19,12 @@ BLOCK = re.compile(r"(?ms)^```rust\n(.*?)^```$")
 TRUST = "docs/trust.md"
 CONTRACTS = ("crates/*/src/**/*.rt", "crates/dom_model/specs/**/*.antt")
 QUOTE = re.compile(r"(?ms)^```text\n(.*?)^```$")
-# A contract on a page: what it is of, and its lines.
+# A contract on a page: the name of its function or trait, and its lines.
 QUOTED = re.compile(r"((?:fn|trait) [\w:]+).*\n(?: .*\n)*")
 
 
 def texts(pattern):
-    """Returns the files of a pattern, by their paths from the top, with what stands in them."""
+    """Returns the contents of the files of a pattern, by their paths from the top."""
     found = {}
     for file in sorted(glob.glob(f"{ROOT}/{pattern}", recursive=True)):
         with open(file, encoding="utf-8") as it:
@@ -33,7 +33,7 @@ def texts(pattern):
 
 
 def wrongs(page, text, callers):
-    """Returns what is wrong with the callers of a page."""
+    """Returns the faults of the callers of a page."""
     blocks = BLOCK.findall(text)
     lacking = [it for it in blocks if not any(it in caller for caller in callers.values())]
     found = [f"{page}: no file of crates/uses/src has the block that begins {it.strip().splitlines()[0]!r}" for it in lacking]
@@ -41,13 +41,13 @@ def wrongs(page, text, callers):
 
 
 def with_contracts(text, known):
-    """Returns a page with its contracts as the sources have them. What has none there stays."""
+    """Returns a page with its contracts as the sources have them. One that the sources lack stays."""
     anew = lambda found: "".join(f"{it}\n" for it in known[found[1]]) if found[1] in known else found[0]
     return QUOTE.sub(lambda block: f"```text\n{QUOTED.sub(anew, block[1])}```", text)
 
 
 def wrong_contracts(page, text, known):
-    """Returns what is wrong with the contracts of a page."""
+    """Returns the faults of the contracts of a page."""
     found = []
     for block in QUOTE.findall(text):
         if QUOTED.sub("", block):
@@ -61,7 +61,7 @@ def wrong_contracts(page, text, known):
 
 
 def misquoted():
-    """Returns what is wrong with the quotes of docs/trust.md."""
+    """Returns the faults of the quotes of docs/trust.md."""
     blocks = QUOTE.findall(texts(TRUST)[TRUST])
     sources = [text for it in CONTRACTS for text in texts(it).values()]
     return [f"{TRUST}: no source has the block that begins {it.splitlines()[0]!r}" for it in blocks if not any(it in text for text in sources)]

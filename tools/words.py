@@ -24,7 +24,7 @@ COVERED = (
 )
 # The folders of other code, whose files of the kinds in COMMENTS have to pass.
 FOLDERS = ("bench", "bindings", "domserve", "examples", "referee", "release", "serving", "tools")
-# Folders that hold what was built or fetched.
+# Folders that hold built or fetched files.
 MADE = {"__pycache__", "build", "dist", "node_modules", "out", "target"}
 # The page that lists the words to avoid, so it may have them.
 LISTING = "docs/writing.md"
