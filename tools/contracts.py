@@ -1,7 +1,7 @@
 """The contracts of a crate's functions as pages quote them: the head on one line, and a line for each clause.
 
-Of a method `S` stands for what `self` points to at the call, and `S'` for what it points to at the return; all else is as in the source. Of a trait the
-head is quoted, and a line for each ghost that it asks for.
+In a method's contract `S` is the value of `self` at the call, and `S'` its value at the return. The rest is as in the source. A trait's head is quoted,
+with a line for each ghost that it asks for.
 """
 import glob
 import os
@@ -16,13 +16,13 @@ SHORT = (("self.old", "S"), ("self.now", "S"), ("self.new", "S'"))
 
 
 def on_one_line(lines):
-    """Lines of a source as one, without what only a layout on several lines has."""
+    """Returns lines of a source as one, without the signs that only a layout on several lines has."""
     text = " ".join(it.strip() for it in lines)
     return re.sub(r"[,;] (?=[)}])|(?<=\()[ ]", lambda found: " " if found[0] == "; " else "", text)
 
 
 def shortened(text):
-    """A clause in the words of the pages."""
+    """Returns a clause in the words of the pages."""
     for old, new in SHORT:
         text = re.sub(rf"\b{re.escape(old)}\b", new, text)
     return text

@@ -70,7 +70,7 @@ def a_full_disk(program):
 
 
 def a_file_that_may_not_grow(program):
-    """What fits is written."""
+    """The part that fits is written."""
     def bounded():
         signal.signal(signal.SIGXFSZ, signal.SIG_IGN)
         resource.setrlimit(resource.RLIMIT_FSIZE, (12, 12))

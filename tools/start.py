@@ -80,7 +80,7 @@ def listed():
 
 
 def with_lower(rows, name):
-    """Returns a crate and those below it, each after those that it stands on."""
+    """Returns a crate and those below it, each after the crates that it depends on."""
     found = []
     for dep in rows[name]:
         found += [it for it in with_lower(rows, dep) if it not in found]

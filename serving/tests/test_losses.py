@@ -181,5 +181,5 @@ class Whole(Losses):
 
 
 def load_tests(loader: unittest.TestLoader, *_: object) -> unittest.TestSuite:
-    """The small form, or the whole one where it is asked for."""
+    """Returns the tests of the small form, or of the whole one if it is asked for."""
     return loader.loadTestsFromTestCase(Whole if os.environ.get("HUCKLEPORT_WHOLE") else Losses)

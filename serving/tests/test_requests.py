@@ -161,7 +161,7 @@ class Orders(unittest.TestCase):
             scene.close()
 
     def check(self, order: str, scene: Scene) -> None:
-        """Each line that was accepted stands in the log once, under its number; each reply is that of its line; each other one was refused."""
+        """Checks that each accepted line is in the log once, under its number. Each reply is that of its line, and each other line was refused."""
         log = scene.logs[order]
         self.assertEqual([it[0] for it in log], list(range(1, len(log) + 1)), order)
         self.assertEqual([it[4] for it in log], [b'{"ok":%d}' % it for it in range(1, len(log) + 1)], order)
