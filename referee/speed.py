@@ -1,18 +1,30 @@
 #!/usr/bin/env python3
 """Commands per second of the built program, beside the same lines through Python's json alone.
 
-For each size N four streams are made: N nodes under the document's element, front to back; N nodes at random places; a
-chain of N elements from above (each new one goes into the one before it) and from below (the chain so far goes into each
-new one). Each tree is printed once at the end.
-Then come scenes in a tree of N nodes at random places (10,000 where --nodes does not say). Texts are removed and inserted
-at random places where no range and no observer is; with 1,000 live ranges in another part of the tree; and with one
-observer of the root and all below it, whose records are taken after each 1,000 commands. An iterator and a walker go over the
-tree. What makes the scene is not counted: its time alone is taken off, of the quickest of --times runs each. A scene of commands that are not served is said to be so.
-The program reads the stream from a file and writes its replies to a file. Python's json reads each line and prints a
-value of the reply's shape, with no tree at all.
-Where they are there, jsdom (by node; Debian's node-jsdom) and Chromium (Debian's chromium-headless-shell, or chromium) answer the same lines by their
-own DOM, as the referee's players do (players/answers.js), jsdom from a file to a file, Chromium within a page. Their replies must be the program's, byte
-for byte. Each ratio is the program's commands per second over theirs; "-" where one gives up.
+For each size N it plays four streams. Each prints its tree once at the end:
+
+- N nodes under the document's element, front to back
+- N nodes at random places
+- a chain of N elements from above: each new one is appended to the one before it
+- a chain of N elements from below: the chain so far is appended to each new one
+
+Then it plays scenes in a tree of N nodes at random places (10,000 without --nodes):
+
+- Texts are removed, and inserted at random places, without ranges and observers
+- the same with 1,000 live ranges in another part of the tree
+- the same with one observer of the root and its subtree, whose records are taken after each 1,000 commands
+- an iterator and a walker step through the tree
+
+The commands that make a scene are not counted, and their time is subtracted. Each time is the least of --times runs. If a scene's commands are not
+served, its line says so.
+
+The program reads the stream from a file and writes its replies to a file. Python's json reads each line and prints a value of the reply's shape, with no
+tree at all. If they are installed, two others answer the same lines by their own DOM, as the referee's players do (players/answers.js):
+
+- jsdom (by node; Debian's node-jsdom), from a file to a file
+- Chromium (Debian's chromium-headless-shell, or chromium), within a page
+
+Their replies must be the program's, byte for byte. Each ratio is the program's commands per second over theirs, or "-" if one gives up.
 """
 
 import html
@@ -38,7 +50,7 @@ const start = performance.now();
 const replies = lines.map((line) => JSON.stringify(answer(line)) + "\\n").join("");
 document.body.textContent = JSON.stringify({ seconds: (performance.now() - start) / 1000, replies });
 </script></body>"""
-# Where Debian's node-jsdom stands.
+# The folder of Debian's node-jsdom.
 MODULES = "/usr/share/nodejs"
 
 
@@ -82,7 +94,7 @@ def from_below(count):
 
 
 class Page:
-    """A tree at random places, whose Texts move about. `commands` make it."""
+    """A tree of nodes at random places, whose Texts are moved. `commands` make it."""
 
     def __init__(self, count):
         self.chance = random.Random(1)
@@ -106,7 +118,7 @@ class Page:
         self.made = count + 2
 
     def edit(self):
-        """A Text is removed, and inserted before a node, or at the end, of some element."""
+        """Yields the commands that remove a Text and insert it before a child of some element, or at its end."""
         text = self.chance.choice(self.texts)
         self.children[self.parents[text]].remove(text)
         parent = self.chance.choice(self.elements)
@@ -201,7 +213,7 @@ def read_and_printed(path, replies):
 
 
 def by_jsdom(path):
-    """The seconds of jsdom for a file of commands, and its replies; none where it gives up."""
+    """Returns the seconds of jsdom for a file of commands, and its replies, or None if it gives up."""
     environment = {**os.environ, "NODE_PATH": os.pathsep.join(it for it in (os.environ.get("NODE_PATH"), MODULES) if it)}
     with open(path, "rb") as lines, tempfile.TemporaryFile() as replies:
         start = time.perf_counter()
@@ -212,7 +224,7 @@ def by_jsdom(path):
 
 
 def by_chromium(path):
-    """The seconds of Chromium's own DOM for a file of commands, within a page and without its start, and its replies."""
+    """Returns the seconds of Chromium's own DOM for a file of commands, within a page and without its start, and its replies."""
     with tempfile.NamedTemporaryFile("w", suffix=".html", encoding="utf-8") as page, open(path, encoding="utf-8") as lines:
         page.write(PAGE.replace("ANSWERS", content(f"{PLAYERS}/answers.js").decode()).replace("LINES", lines.read()))
         page.flush()
@@ -226,7 +238,7 @@ def by_chromium(path):
 
 
 def is_there(by):
-    """Whether it answers where there is nothing to be answered."""
+    """Returns whether one is installed: it answers an empty file."""
     try:
         return by(os.devnull)[1] == []
     except OSError:
@@ -234,13 +246,13 @@ def is_there(by):
 
 
 def quickest(program, commands, others, times):
-    """Of each the least seconds of some runs; none of one that gave up."""
+    """Returns the least seconds of some runs for each, or None for one that gave up."""
     found = [timed(program, commands, others) for _ in range(times)]
     return [None if None in it else min(it) for it in zip(*found)]
 
 
 def timed(program, commands, others):
-    """The seconds of the program and of json alone for the commands, and of each of the others; none of one that gave up."""
+    """Returns the seconds of the program, of json alone and of each of the others for the commands, or None for one that gave up."""
     with tempfile.NamedTemporaryFile("w", suffix=".lines") as file:
         file.writelines(json.dumps(command, separators=(",", ":")) + "\n" for command in commands)
         file.flush()
@@ -260,14 +272,14 @@ def show(name, size, count, seconds, *others):
 
 
 def less(after, before):
-    """The seconds that the later run took more, by each."""
+    """Returns the seconds that the later run took more, for each."""
     if any(late is not None and late <= early for late, early in zip(after, before)):
-        raise Refused("took no longer than what makes it: give more nodes")
+        raise Refused("it took no longer than the making of its scene; give more nodes")
     return [None if late is None else late - early for late, early in zip(after, before)]
 
 
 def show_less(name, size, making, commands, given, others):
-    """The commands, less what makes their scene and the start of each."""
+    """Shows the speed of commands, without the time of their scene's making and of the start."""
     try:
         before, after = (quickest(given.program, it, others, given.times) for it in (making, making + commands))
         show(name, size, len(commands), *less(after, before))
@@ -278,7 +290,7 @@ def show_less(name, size, making, commands, given, others):
 def takes_sizes(parser):
     parser.add_argument("--sizes", type=int, nargs="+", default=[1000, 10000, 100000], metavar="N")
     parser.add_argument("--nodes", type=int, default=10000, metavar="N")
-    parser.add_argument("--times", type=int, default=3, metavar="N", help="how often each is run, of which the quickest counts (3)")
+    parser.add_argument("--times", type=int, default=3, metavar="N", help="how often each is run; the quickest run counts (3)")
 
 
 def main():

@@ -1,7 +1,7 @@
 #!/usr/bin/env python3
-"""Tests the referee: its words, cores with wrong bodies, players that fail, and each player that is here; says what it leaves out.
+"""Tests the referee: its words, cores with wrong bodies, players that fail, and each installed player. It prints the tests that it leaves out.
 
-Every player is played for a short time, and nothing new may come up: what differs has to be among the known differences.
+Every player is played for a short time. Nothing new may come up: each difference has to be a known one.
 """
 import argparse
 import concurrent.futures
@@ -47,7 +47,7 @@ LIBRARIES = (*OF_C, "python", "rust", "javascript")
 OTHERS = ("minidom", "lxml", "libxml2", "domino", "xmldom", "chromium", "firefox")
 # A stream that was seen to show a wrong body, which saves the time of drawing those before it. Others show it too.
 FIRST = {"transient_counts": 237}
-# Which known differences a wrong body is, where a player has the same.
+# The known differences that a wrong body is, if a player has the same.
 KNOWN_AS = {
     "surround_half_done": {"surround all or nothing"},
     "child_ahead_of_ancestor": {"minidom: asks no ancestors and no Documents", "libxml2: no checks", "xmldom: where a node may stand",
@@ -56,13 +56,13 @@ KNOWN_AS = {
     "ends_sent_into_parent": {"jsdom: ends at insertion"},
     "replaced_without_transients": {"jsdom: transients"},
 }
-# What a run over jsdom 20.0.3 has to find: known differences, and commands that they come from.
+# The findings that a run over jsdom 20.0.3 must have: known differences, and commands that they come from.
 OF_JSDOM = {("jsdom: ends at insertion", "splitText"), ("jsdom: ends in joined Texts", "normalize"), ("jsdom: transients", None), ("jsdom: filters", None)}
 SIDE_BY_SIDE = os.cpu_count() or 1
 
 
 def said(*words, limit=300):
-    """The status of the referee, and what it says."""
+    """Returns the status of the referee, and its output and errors."""
     done = subprocess.run([sys.executable, REFEREE, *words], stdout=subprocess.PIPE, stderr=subprocess.PIPE, text=True, timeout=limit, check=False)
     return done.returncode, done.stdout, done.stderr
 
@@ -73,18 +73,18 @@ def lines(path, commands):
 
 
 def core():
-    """The words for the core: the library where it is, since it is quicker, or else the program."""
+    """Returns the words for the core: the library if it is built, since it is quicker, or else the program."""
     made = os.path.join(GIVEN.library, "libhuckleport.so")
     return ["--library", GIVEN.library, "--program", made if os.path.exists(made) else GIVEN.program]
 
 
 def wrong(*faults):
-    """The words of a core with wrong bodies."""
+    """Returns the words of a core with wrong bodies."""
     return shlex.join([sys.executable, WRONG, core()[-1], *faults])
 
 
 def side_by_side(function, names):
-    """What a function returns for each name."""
+    """Returns a function's result for each name."""
     with concurrent.futures.ThreadPoolExecutor(SIDE_BY_SIDE) as pool:
         return dict(zip(names, pool.map(function, names)))
 
@@ -106,7 +106,7 @@ class Words(unittest.TestCase):
 
 
 class Table(unittest.TestCase):
-    """What stands here of the commands of docs/commands.json."""
+    """The referee's own tables of the commands of docs/commands.json."""
 
     def test_names(self):
         arguments = {(of, argument["name"]) for it in TABLE["commands"] for of in (it["group"], it["name"]) for argument in it["arguments"]}
@@ -119,7 +119,7 @@ class Table(unittest.TestCase):
 
 
 class Run(unittest.TestCase):
-    """What stands on a run in a folder of its own."""
+    """The base of tests that need a run in a folder of its own."""
 
     def setUp(self):
         kept = tempfile.TemporaryDirectory()
@@ -134,7 +134,7 @@ class Run(unittest.TestCase):
 
 
 class Lines(Run):
-    """At which line a player ends, and which lines it is not given."""
+    """The line at which a player ends, and the lines that it is not given."""
 
     def lines_of(self, *commands):
         path = os.path.join(self.folder, "lines")
@@ -181,7 +181,7 @@ class Lines(Run):
             self.assertEqual((status, why in err), (3, True), err)
 
     def test_done_in_part(self):
-        """What comes behind a command of which the standard has done a part is given to this project's own libraries alone."""
+        """Only this project's own libraries are given lines behind a command that the standard does in part."""
         refused = Turn(["surroundContents", 0, 1], {"error": "HierarchyRequestError"}, [], [], 2)
         turns = [refused._replace(reply={"error": "InvalidStateError"}), refused, refused._replace(command=["range", 0], reply={"ok": [0, 0, 0, 0]})]
         player = players.Player()
@@ -205,7 +205,7 @@ class Lines(Run):
         self.assertEqual({it["cause"] for it in read_known(KNOWN)} | {"anything"}, set(CAUSES))
 
     def test_cargo_fails(self):
-        """Of a failed build in Rust one line is told."""
+        """The message about a failed build in Rust has one line of the build's."""
         cargo = os.path.join(self.folder, "cargo")
         with open(cargo, "w", encoding="utf-8") as file:
             file.write("#!/bin/sh\necho warning: nothing >&2; echo 'error: there is no such crate' >&2; echo more >&2; exit 101\n")
@@ -215,7 +215,7 @@ class Lines(Run):
         self.assertEqual((status, out, err), (3, "", "referee: cargo can't build the player in Rust: error: there is no such crate\n"))
 
     def test_known_hangs(self):
-        """A known hang's reply is waited for a short time, and its command drawn seldom."""
+        """The referee waits a short time for the reply of a known hang, and draws its command seldom."""
         known = Hanging(["in its own place"])
         turns = [Turn(["createElement", 0, "a"], {"ok": 1}, [], [], 2), Turn(["insertBefore", 0, 1, 1], {"ok": 1}, [], [], 2), Turn(["appendChild", 0, 1], {"ok": 1}, [], [], 2)]
         self.assertEqual([known.seconds(it.command, it.reply, 10.0) for it in turns], [10.0, SECONDS, 10.0])
@@ -250,7 +250,7 @@ class Itself(Run):
 
 
 class Bodies(unittest.TestCase):
-    """Each wrong body is found within a minute, by streams of the group that has its commands; what is kept is short, and is no known difference."""
+    """Each wrong body is found within a minute, by streams of the group that has its commands. The kept case is short, and no known difference."""
 
     @staticmethod
     def found(fault):
@@ -270,7 +270,7 @@ class Bodies(unittest.TestCase):
 
 
 def entries_of(case):
-    """The known differences that a case would be, whichever player it were of."""
+    """Returns the known differences that a case would be, whichever player it were of."""
     known = read_known(KNOWN)
     cores = Cores(core()[-1])
     names = {it for entry in known for it in entry["players"]}
@@ -280,7 +280,7 @@ def entries_of(case):
 
 
 class Kept(Run):
-    """What a run keeps, and what is made of it."""
+    """The cases that a run keeps, and their uses."""
 
     @classmethod
     def setUpClass(cls):
@@ -310,7 +310,7 @@ class Kept(Run):
             page = file.read()
         parts = ("<h2>New</h2>", ".splitText(", 'class="verdict"', "this core says", "https://dom.spec.whatwg.org/#concept-text-split", "<svg", "<h2>The run</h2>")
         self.assertEqual(sorted(parts, key=page.index), list(parts))
-        # (so the first screen has the code, what it prints and what is due)
+        # (so the first screen has the code, its output and the expected one)
         self.assertLess(page[: page.index('class="verdict"')].partition("<body>")[2].count("\n"), 30)
 
     def test_replay(self):
@@ -342,7 +342,7 @@ class Kept(Run):
         self.assertIn("the standard says", page)
 
     def test_played_on(self):
-        """A stream is compared to its end: what stands behind a difference is compared too, and each line is counted once."""
+        """A stream is compared to its end, behind differences too, and each line is counted once."""
         known = os.path.join(self.folder, "known")
         entries = [{"name": name, "players": ["wrong"], "cause": "anything", "of": [name], "why": why, "reason": "It is made so."}
             for name, why in (("splitText", "ours"), ("insertBefore", "fault"))]
@@ -368,7 +368,7 @@ class Kept(Run):
         self.assertNotIn("is due", ours)
 
     def test_beside_known(self):
-        """What differs beside a known difference is told, and the known one stays known."""
+        """Another difference beside a known one is found, and the known one stays known."""
         drawn = ["--group", "texts", "--streams", "12", "--length", "60", "--weight", "insertBefore=20", "--weight", "splitText=3"]
         words = ["--command", wrong("ends_sent_into_parent", "split_off_by_one"), "--player", "jsdom", *drawn]
         self.assertEqual(self.run_of("play", *words)[0], 1)
@@ -404,7 +404,7 @@ class Kept(Run):
 
 
 class Players(unittest.TestCase):
-    """Short runs over what is here, side by side; nothing new may come up."""
+    """Short runs over the installed players, side by side. Nothing new may come up."""
 
     @staticmethod
     def short(name):
@@ -423,7 +423,7 @@ class Players(unittest.TestCase):
                     self.assertEqual((status, new), (0, []), told)
 
     def test_jsdom(self):
-        """The faults of jsdom are found, each by ten commands or fewer, and stand on the page."""
+        """The faults of jsdom are found, each by ten commands or fewer, and are on the page."""
         with tempfile.TemporaryDirectory() as folder:
             drawn = [word for it in ("texts", "observers", "observers", "traversal") for word in ("--group", it)]
             status, out, err = said("play", *core(), "--out", folder, "--quiet", "--player", "jsdom", *drawn, "--seed", "21", "--streams", "48", "--for", "240")
@@ -443,7 +443,7 @@ class Players(unittest.TestCase):
             self.prints_what_it_says(page)
 
     def prints_what_it_says(self, page):
-        """The scripts of a page of node's print what stands below them."""
+        """Checks that the scripts of a page for node print the output that the page shows below them."""
         codes = [html.unescape(it) for it in re.findall(r'<pre class="code">(.*?)</pre>', page, re.DOTALL)]
         told = [html.unescape(it) for it in re.findall(r'<p class="verdict">It prints <code>(.*?)</code>', page)]
         environment = {**os.environ, "NODE_PATH": players.modules_of_node()}
@@ -461,14 +461,14 @@ class Reports(unittest.TestCase):
     BLOCKS = os.path.join(HERE, "tests/blocks.js")
 
     def report(self, name, language="js"):
-        """Of a report its title, and each block of code behind the first one, with that ahead of it."""
+        """Returns the title of a report, and each block of code but the first, with the first ahead of it."""
         with open(os.path.join(HERE, "reports", f"{name}.md"), encoding="utf-8") as file:
             text = file.read()
         first, *blocks = re.findall(rf"```{language}\n(.*?)```", text, re.DOTALL)
         return text.splitlines()[0], [first + it for it in blocks]
 
     def check(self, blocks, told, other=" in Firefox"):
-        """Each line that prints has to print what is said, or what is due where what is said is of another player."""
+        """Checks that each line prints the output in its comment, or the expected one if that output is another player's."""
         for block, printed in zip(blocks, told, strict=True):
             said_to = re.findall(r"(?://|#) prints (.*?)(?:, due is (.*))?$", block, re.MULTILINE)
             with self.subTest(block.splitlines()[-1]):
@@ -488,7 +488,7 @@ class Reports(unittest.TestCase):
         return subprocess.run(words, env=environment, stdout=subprocess.PIPE, stderr=subprocess.DEVNULL, text=True, check=False).stdout.strip() or None
 
     def test_issues(self):
-        """Each fault of a report is a text by itself, whose script has what the report's first code makes."""
+        """Each fault of a report is a text by itself, whose script begins with the report's first code."""
         for name in REPORTS:
             with open(os.path.join(HERE, "reports", f"{name}.md"), encoding="utf-8") as file:
                 opening = re.search(r"```\w+\n(.*?)```", file.read(), re.DOTALL)[1]
@@ -503,7 +503,7 @@ class Reports(unittest.TestCase):
         return subprocess.run(["/usr/bin/python3", "-c", block], stdout=subprocess.PIPE, text=True, timeout=seconds, check=True).stdout.splitlines()
 
     def never_comes_back(self, call, block):
-        """A block has to be ended from outside: after some seconds, or as it takes more memory than it may."""
+        """Checks that a block has to be ended from outside: after some seconds, or when it takes more memory than it may."""
         with self.subTest(block.splitlines()[-1]):
             with self.assertRaises((subprocess.TimeoutExpired, subprocess.CalledProcessError)) as ended:
                 call(block)

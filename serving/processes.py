@@ -1,10 +1,9 @@
 #!/usr/bin/env python3
 """Many processes of the program at once: how long they take to start, how much memory they have, and how many lines a second they answer.
 
-Each process makes a document of --nodes nodes. Then memory is read from /proc: what is a process's own, and its share of what processes
-have in common (PSS), once for processes with nothing but a first reply and once with their documents. Then lines are sent: one to every
-process, whose replies are read before the next (a turn), and many in one piece to every process. All is sent and read by this one script,
-whose own time counts.
+Each process makes a document of --nodes nodes. Memory is read from /proc twice: after a first reply alone, and with the documents. It is a process's
+private memory, and that with its share of common memory (PSS). Then lines are sent in two ways. In a turn every process gets one line, and its
+reply is read before the next turn. Then every process gets many lines in one piece. This one script sends and reads all, and its own time counts.
 """
 import json
 import os
@@ -17,7 +16,7 @@ sys.path.insert(0, os.path.join(os.path.dirname(os.path.dirname(os.path.abspath(
 from running import words_of
 
 QUESTION = b'["root",0]\n'
-# How many turns are measured, and how many lines go in one piece; both fit in a pipe.
+# The number of turns that are measured, and the number of lines in one piece; both fit in a pipe.
 TURNS, PIECE = 20, 1000
 
 
@@ -27,7 +26,7 @@ def takes_counts(parser):
 
 
 def document(nodes):
-    """The lines that make a document: an element, and elements and Texts under it."""
+    """Returns the lines that make a document: an element, and elements and Texts under it."""
     commands = [["createElement", 0, "root"], ["appendChild", 0, 1]]
     for number in range(2, nodes + 1):
         commands.append(["createElement", 0, "item"] if number % 2 else ["createText", 0, "some text"])
@@ -36,7 +35,7 @@ def document(nodes):
 
 
 def begun(program, count):
-    """So many processes, each of which has answered a line."""
+    """Starts `count` processes, and returns them once each has answered a line."""
     found = [subprocess.Popen([program], stdin=subprocess.PIPE, stdout=subprocess.PIPE) for _ in range(count)]
     turn(found, [QUESTION])
     return found
@@ -55,7 +54,7 @@ def turn(processes, lines):
 
 
 def memory(processes):
-    """The kilobytes that all processes have: PSS, and those that are private."""
+    """Returns the kilobytes of all processes: their PSS, and the private ones."""
     found = {"Pss:": 0, "Private_Dirty:": 0}
     for it in processes:
         with open(f"/proc/{it.pid}/smaps_rollup", encoding="ascii") as file:
@@ -75,7 +74,7 @@ def timed(call):
 def tell_memory(what, processes):
     pss, private = memory(processes)
     count = len(processes)
-    print(f"{what}: {pss / 1024:,.0f} MB in all; {pss / count:,.0f} KB a process, of which {private / count:,.0f} KB its own", flush=True)
+    print(f"{what}: {pss / 1024:,.0f} MB in all; {pss / count:,.0f} KB a process, {private / count:,.0f} KB of them its own", flush=True)
 
 
 def tell_lines(what, count, seconds):

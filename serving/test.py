@@ -1,9 +1,14 @@
 #!/usr/bin/env python3
 """Tests served documents against a PostgreSQL that each test starts in a folder of its own, on a socket there alone.
 
-Where this Python has no psycopg and Debian's has, they run over that one; where there is none, or no PostgreSQL, they are left out with a line
-that says so. --whole plays the test of losses with 4 workers, 200 documents, 200,000 lines and 20 clients, in place of a small form. So it does
-with orders of five steps, logs of 1,000,000 lines, 200 documents beside one that takes all memory, and 2,000 clients of a pool.
+If only Debian's Python has psycopg, they run by that one. Without psycopg or PostgreSQL they are left out, and a line says so. With --whole some
+tests have a large form:
+
+- losses, with 4 workers, 200 documents, 200,000 lines and 20 clients
+- orders of five steps
+- logs of 1,000,000 lines
+- 200 documents beside one that takes all memory
+- 2,000 clients of a pool
 """
 import argparse
 import importlib.util
@@ -23,14 +28,14 @@ sys.dont_write_bytecode = True
 
 
 def has_psycopg(python):
-    """Whether a Python has psycopg 3."""
+    """Returns whether a Python has psycopg 3."""
     if python == sys.executable:
         return importlib.util.find_spec("psycopg") is not None
     return os.path.exists(python) and subprocess.run([python, "-c", "import psycopg"], stderr=subprocess.DEVNULL, check=False).returncode == 0
 
 
 def lacking(given):
-    """What the tests can't be run without, where it is not there."""
+    """Returns why the tests can't run: a missing program or library; None if they can."""
     sys.path.insert(0, HERE)
     from huckleport_serving import trial
 
@@ -44,13 +49,13 @@ def lacking(given):
 
 
 def tested(given):
-    """How many tests passed and failed."""
+    """Returns how many tests passed and failed."""
     os.environ["HUCKLEPORT_PROGRAM"] = given.program
     if given.whole:
         os.environ["HUCKLEPORT_WHOLE"] = "1"
     if not given.only:
         return tested_together()
-    # (what the tests started ends with them)
+    # (processes that the tests started end with them)
     signal.signal(signal.SIGTERM, lambda *_: sys.exit(1))
     sys.path.insert(0, os.path.join(HERE, "tests"))
     ran = unittest.TextTestRunner(verbosity=2).run(unittest.TestLoader().loadTestsFromNames(given.only))
@@ -59,7 +64,7 @@ def tested(given):
 
 
 def tested_together():
-    """Runs the files of tests at once, each in a process of its own, since most of their time is waiting. Prints what they print, one by one."""
+    """Runs the files of tests at once, each in a process of its own, since most of their time is waiting. Prints their outputs one by one."""
     names = sorted(it[:-3] for it in os.listdir(os.path.join(HERE, "tests")) if it.startswith("test_"))
     signal.signal(signal.SIGTERM, lambda *_: sys.exit(1))
     started = []

@@ -1,12 +1,12 @@
 #!/usr/bin/env python3
-"""Builds `domserve` of the assembly in generated/, and prints where it stands.
+"""Builds `domserve` of the assembly in generated/, and prints its path.
 
-The assembly is what the proof left, for the sources whose sums stand in generated/SUMS. Where these are the sources that are here, a C compiler builds the
-program in a second, and it is kept beside the sum of what it was built of: in crates/domserve/out, or, where that cannot be written, below
-$XDG_CACHE_HOME. Where the sources are others, the program is proved and built by tools/start.py, which takes the Rattle kit.
+The assembly is the proved code of the sources whose sums are in generated/SUMS. If these are the sources that are here, a C compiler builds the program in
+a second. It is kept beside a sum of its sources: in crates/domserve/out, or below $XDG_CACHE_HOME if that cannot be written. If the sources are others,
+tools/start.py proves and builds the program, by the Rattle kit.
 
-With --check nothing is built, and it fails where a file is not the one that SUMS names, or was made of other sources. With --to the program is built
-into a file, for another processor too.
+With --check nothing is built. It fails if a file is not the one that SUMS names, or was made of other sources. With --to the program is built into a
+file, for another processor too.
 """
 import argparse
 import contextlib
@@ -28,12 +28,12 @@ FOLDER = f"{ROOT}/generated"
 SUMS = f"{FOLDER}/SUMS"
 WRITER = "python3 tools/generate.py"
 LIBRARY = "dom_c"
-# The processors that there is assembly for.
+# The processors of the assembly.
 MACHINES = ("x86_64", "aarch64")
-# By hand, in C: memory for both, and for the program what it asks of the system beside the C library's own functions.
+# By hand, in C: memory for both, and for the program the calls of the system beside the C library's own functions.
 HEAP, SYSTEM = "heap.c", "os.c"
 MODULE, CALLS, HEADER = "huckleport.wasm", "calls.js", "huckleport.h"
-# What the header, and the module with its calls, are made of beside the crates.
+# The sources of the header, and of the module with its calls, beside the crates.
 OF_HEADER = ("bindings/VERSION", "bindings/c/exports.py", "bindings/c/header.py", "bindings/c/sections.py", "bindings/c/version.py")
 OF_MODULE = (*OF_HEADER, *(f"bindings/web/{it}" for it in ("base.h", "bytes.c", "glue.py", "heap.c", "heap.h", "html.h", "include", "make.py", "retarget.py", "wasm.py")))
 ROW = re.compile(r"# (?P<name>\S+): sources (?P<sources>\w+)\n(?P<own>\w+)  (?P=name)\n")
@@ -44,7 +44,7 @@ LINKED = ("-pie", "-Wl,--gc-sections", "-Wl,-z,relro,-z,now", "-Wl,-z,noexecstac
 
 
 class Unfit(Exception):
-    """Why nothing can be built of what stands in generated/."""
+    """The files of generated/ can't be built. The message says why."""
 
 
 def assembly(name, machine):
@@ -99,7 +99,7 @@ def rows():
 
 
 def changed():
-    """Returns what is not as SUMS has it, of the crates' sources."""
+    """Returns the crates whose sources are not those of SUMS, or crates.txt if there are none."""
     noted = {it["name"]: it["sources"] for it in CRATE.finditer(text_of(SUMS))}
     return [f"crates/{it}" for it, its in noted.items() if sum_of_crate(it) != its] or ["crates.txt"]
 
@@ -131,7 +131,7 @@ def content(file):
 
 
 def plain(whole):
-    """Returns what stands under xz: by Python's own module, or else by the program."""
+    """Returns the content of a file of xz: by Python's own module, or else by the program."""
     try:
         import lzma
     except ImportError:
@@ -141,7 +141,7 @@ def plain(whole):
     return lzma.decompress(whole)
 
 
-# ---- what is built
+# ---- building
 
 
 def call(compiler, *words):
@@ -150,7 +150,7 @@ def call(compiler, *words):
     except OSError as why:
         raise Unfit(f"there is no {compiler}, which builds the program and the library ({why.strerror}): install gcc and libc6-dev") from None
     if ran.returncode:
-        raise Unfit(f"{compiler} did not build what stands in generated/: {ran.stdout.strip()[-600:]}")
+        raise Unfit(f"{compiler} did not build the files of generated/: {ran.stdout.strip()[-600:]}")
     return ran.stdout
 
 
@@ -170,7 +170,7 @@ def machine_of(given=None):
 
 
 def fits(name, machine=None):
-    """Raises why the assembly of the program or of the library is not of the sources that are here."""
+    """Raises Unfit with the reason if the assembly of the program or of the library is not of the sources that are here."""
     for it in (assembly(name, machine_of(machine)), HEAP, *([SYSTEM] if name == PROGRAM else [])):
         why = why_unfit(it)
         if why:
@@ -188,7 +188,7 @@ def program(to, machine=None, compiler=None):
 
 
 def library(to, machine=None, compiler="cc"):
-    """Builds the archive of the library, with all that it takes beside the C library."""
+    """Builds the archive of the library, with all that it needs beside the C library."""
     name = assembly(LIBRARY, machine_of(machine))
     with tempfile.TemporaryDirectory(prefix="assembling-", dir=os.path.dirname(os.path.abspath(to))) as room:
         lay((name, HEAP), room)
@@ -202,7 +202,7 @@ def library(to, machine=None, compiler="cc"):
 
 
 def kept_in():
-    """Returns the folder in which the program is kept: the crate's own, or, where that cannot be written, one below $XDG_CACHE_HOME."""
+    """Returns the folder in which the program is kept: the crate's own, or one below $XDG_CACHE_HOME if that cannot be written."""
     cache = os.environ.get("XDG_CACHE_HOME") or os.path.expanduser("~/.cache")
     tried = [os.path.dirname(start.built(PROGRAM)[0]), f"{cache}/huckleport"]
     for it in tried:
@@ -215,7 +215,7 @@ def kept_in():
 
 @contextlib.contextmanager
 def alone(folder):
-    """Holds a folder against other starts, and clears what those that were cut off left."""
+    """Locks a folder against other starts, and removes the files of starts that were cut off."""
     with open(f"{folder}/{PROGRAM}.lock", "w", encoding="utf-8") as lock:
         fcntl.flock(lock, fcntl.LOCK_EX)
         for it in os.listdir(folder):
@@ -225,7 +225,7 @@ def alone(folder):
 
 
 def built_program():
-    """Returns the program as the assembly gives it, which is built unless that was done."""
+    """Returns the program of the assembly, which is built unless that was done."""
     fits(PROGRAM)
     files = (assembly(PROGRAM, machine_of()), HEAP, SYSTEM)
     of = f"{rows()[files[0]][0]} assembled {hashlib.sha256(repr([rows()[it] for it in files]).encode()).hexdigest()}\n"
@@ -236,7 +236,7 @@ def built_program():
         if os.path.isfile(to) and os.path.isfile(f"{to}.sum") and text_of(f"{to}.sum") == of:
             return to
         os.makedirs(os.path.dirname(to), exist_ok=True)
-        # (the sum goes first and comes last: a start that is cut off leaves none beside another program)
+        # (the sum is removed first and written last: a start that is cut off leaves none beside another program)
         with contextlib.suppress(FileNotFoundError):
             os.remove(f"{to}.sum")
         program(to)
@@ -257,7 +257,7 @@ def proved(name, why):
 
 
 def ready():
-    """Returns the program: as it was proved here, or as the assembly gives it, or, where that is of other sources, proved now."""
+    """Returns the program: as it was proved here, or of the assembly. If that is of other sources, it is proved now."""
     if start.is_fresh(PROGRAM):
         return start.built(PROGRAM)[0]
     try:
@@ -268,7 +268,7 @@ def ready():
 
 
 def faults():
-    """Returns what is wrong with generated/, as sentences that say what to run."""
+    """Returns the faults of generated/, as sentences that say what to run."""
     found = rows()
     wrong = [f"generated/{it} is not named in generated/SUMS: {WRITER} writes that" for it in sorted(os.listdir(FOLDER)) if it not in found and it != "SUMS"]
     for it in found:

@@ -1,15 +1,15 @@
 #!/usr/bin/env python3
-"""Runs all tests that need no proof, side by side: of generated/, of the tools, of dialogues, of want of memory, of costs, of README, of each binding, of
-a release's interface, of served documents, and of the referee. With --proved it runs those that want the Rattle kit and what it proved as well.
+"""Runs all tests that need no proof, side by side: of generated/, the tools, dialogues, refused memory, costs, README, the bindings, a release's interface,
+served documents and the referee. With --proved it also runs those that need the Rattle kit and proved crates.
 
-What they share is built first: the program, the library for C, the module for Python and the one for JavaScript. Tests that build it again put each file in
-place whole, so others may read it meanwhile. Each task is begun once those that it needs have ended, never more at once than processors. What it writes is
-handed on in one piece when it has ended, under a line with its name and how long it took. The last line says how many passed and failed; --after adds what
-another run said in its last line. A test that says no such counts is one; a build counts where it fails.
+Four builds that tests share are first: the program, the library for C, the module for Python and the one for JavaScript. Tests that build them again
+replace each file whole, so others may read it meanwhile. A task begins once those that it needs have ended, and never more run at once than there are
+processors. Its output is printed in one piece when it has ended, under a line with its name and how long it took. The last line says how many passed and
+failed, and --after adds the counts of another run's last line. A test without such counts is one; a build counts if it fails.
 
-What passed is kept in out/passed.json, beside a sum of all that it may read: each file of the repository, the kit, and what is installed. Where nothing of
-that has changed it is not run again, and what it wrote is shown once more; builds are always run, and --anew runs all. Beside it, out/seconds.json has how
-long each took, by which is told how long is left.
+Passed tasks are kept in out/passed.json, beside a sum of all that they may read: each file of the repository, the kit, and the installed packages. If
+nothing of that has changed, a task is not run again, and its output is printed once more. Builds are always run, and --anew runs all. out/seconds.json
+has how long each task took, from which the progress reckons the time that is left.
 """
 import argparse
 import contextlib
@@ -36,8 +36,8 @@ PROGRAM, LIBRARY, EXTENSION, MODULE = "the program", "the library for C", "the m
 
 @dataclasses.dataclass(frozen=True)
 class Task:
-    """A test, or a build that tests need: its script with words, the names of those that have to end first, how many seconds it took on four processors beside
-    the others, and whether it wants the kit."""
+    """A test, or a build that tests need: its script with words, and the names of those that have to end first. `seconds` is how long it took on four
+    processors beside the others, and `is_of_kit` whether it needs the kit."""
 
     name: str
     words: tuple
@@ -47,7 +47,7 @@ class Task:
     is_of_kit: bool = False
 
 
-# Those that others need come first, and then those that take long.
+# Those that others need are first, and then those that take long.
 TASKS = (
     Task(PROGRAM, ("tools/assemble.py",), is_build=True, seconds=4),
     Task(LIBRARY, ("bindings/c/make.py",), is_build=True, seconds=5),
@@ -75,14 +75,14 @@ TASKS = (
     Task("tools", ("tools/test.py",)),
 )
 
-# What passed, and how long each took.
+# The files of the passed tasks, and of how long each took.
 KEPT, FIGURES = f"{ROOT}/out/passed.json", f"{ROOT}/out/seconds.json"
-# Which packages are installed, and which kit and machine this is.
+# The commands that print the installed packages, the kit and the machine.
 SURROUNDINGS = (("dpkg-query", "-W"), ("rt", "version"), ("uname", "-a"), (sys.executable, "--version"))
 
 
 def told(words):
-    """Returns what a command writes, or None where it cannot."""
+    """Returns a command's output, or None if it fails."""
     try:
         return subprocess.run(words, cwd=ROOT, capture_output=True, check=True).stdout
     except (OSError, subprocess.CalledProcessError):
@@ -90,7 +90,7 @@ def told(words):
 
 
 def sum_of_all():
-    """Returns a sum of all that a test may read, or None where git does not list the repository's files."""
+    """Returns a sum of all that a test may read, or None if git does not list the repository's files."""
     listed = told(("git", "ls-files", "-z", "--cached", "--others", "--exclude-standard"))
     if listed is None:
         return None
@@ -106,7 +106,7 @@ def sum_of_all():
 
 
 class Passed:
-    """What passed, by task: how many passed and what was written, over what sum."""
+    """The passed tasks: the output of each, and the sum over which it passed."""
 
     def __init__(self, path, total, is_anew=False):
         self.path, self.total, self.of = path, total, {}
@@ -115,7 +115,7 @@ class Passed:
                 self.of = {name: it for name, it in json.load(file).items() if it["sum"] == total}
 
     def said(self, task):
-        """Returns what a task wrote that passed over the same sum, or None."""
+        """Returns the output of a task that passed over the same sum, or None."""
         return self.of[task.name]["said"] if task.name in self.of and not task.is_build else None
 
     def keep(self, task, said):
@@ -129,7 +129,7 @@ class Passed:
 
 
 class Run:
-    """What has begun and ended; `passed` and `failed` are counted over all that has ended."""
+    """A run of tasks. `passed` and `failed` are the counts of those that have ended."""
 
     def __init__(self, passed, failed, kept, tasks, jobs):
         self.passed, self.failed, self.kept = passed, failed, kept
@@ -138,7 +138,7 @@ class Run:
         self.progress = Progress("test", {it.name: self.figures.of.get(it.name, it.seconds) for it in tasks}, jobs)
 
     def next(self):
-        """Takes the first task whose needs have ended, waits where there is none, and returns None once nothing is left to begin."""
+        """Takes the first task whose needs have ended, and waits if there is none. Returns None once none is left to begin."""
         with self.changed:
             while self.left:
                 found = next((it for it in self.left if self.ended.issuperset(it.needs)), None)
@@ -149,7 +149,7 @@ class Run:
         return None
 
     def end(self, task, status, said, took):
-        """Counts what a task came to, and hands on what it wrote."""
+        """Counts the results of a task, and prints its output."""
         found = COUNTS.fullmatch(said.rstrip("\n").rpartition("\n")[2])
         passed, failed = map(int, found.groups()) if found else (int(status == 0 and not task.is_build), 0)
         failed += status != 0 and not failed
@@ -191,8 +191,8 @@ def main():
     words = argparse.ArgumentParser(description=__doc__, formatter_class=argparse.RawDescriptionHelpFormatter)
     words.add_argument("--after", metavar="LINE", default="0 passed, 0 failed", help="the last line of the tests before these")
     words.add_argument("--jobs", type=int, default=os.cpu_count() or 1, metavar="N", help="how many run side by side (all processors)")
-    words.add_argument("--anew", action="store_true", help="run also what passed over the same files")
-    words.add_argument("--proved", action="store_true", help="run also what wants the Rattle kit, and what it proved and built")
+    words.add_argument("--anew", action="store_true", help="also run tasks that passed over the same files")
+    words.add_argument("--proved", action="store_true", help="also run tasks that need the Rattle kit and the crates that it proved and built")
     given = words.parse_args()
     before = COUNTS.fullmatch(given.after)
     if not before:

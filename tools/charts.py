@@ -36,7 +36,7 @@ def text_of(file):
 
 
 def section_of(text, heading):
-    """Returns what a page has below a heading, up to the next."""
+    """Returns the text of a page below a heading, up to the next."""
     return text.partition(f"\n## {heading}\n")[2].partition("\n## ")[0]
 
 

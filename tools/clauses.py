@@ -35,7 +35,7 @@ def reading_order():
 
 
 def back_edges():
-    """Returns what is said of each definition that uses a word of a file which is read later, and of each file that is not in the order."""
+    """Returns the faults of definitions that use words of files which are read later, and of files that are not in the order."""
     order, bad = reading_order(), []
     place = {f"Rattle.dom_model.specs.{name}": at for at, name in enumerate(order)}
     for at, name in enumerate(order):

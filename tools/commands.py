@@ -17,7 +17,7 @@ MADE = "docs/commands.json"
 # Other pages that say how many commands there are.
 COUNTING = ("README.md", PAGE, "docs/rust.md", "crates/dom_session/README.md")
 NUMBERS = "no one two three four five six seven eight nine ten".split()
-# What the page says of an argument of each shape; more may follow behind the text.
+# The page's words for an argument of each shape; more may follow behind the text.
 SAID = {
     "a_number": ("the number of such an object", "a whole number"),
     "a_string": ("a string",),
@@ -31,7 +31,7 @@ MAY_BE_NULL = "_or_null"
 
 
 def texts():
-    """What is read, by its path."""
+    """Returns the texts of the definitions and pages, by their paths."""
     found = {}
     for path in (TABLE, LINE, COMMAND, *COUNTING):
         with open(os.path.join(ROOT, path), encoding="utf-8") as file:
@@ -40,7 +40,7 @@ def texts():
 
 
 def rows(text):
-    """The rows of the definitions: of each name the shapes of its arguments, and what its line makes."""
+    """Returns the rows of the definitions: for each name the shapes of its arguments, and the command that its line makes."""
     found = re.findall(r'row \(codes "(\w+)"\) (\[\]|\(.*?\[\]\))\s+\(λ \(a : Arguments\)\.\s+(.*)\)$', text, re.M)
     if len(found) != text.count("row (codes "):
         sys.exit(f"{TABLE}: it has rows of a form that is not known here")
@@ -48,7 +48,7 @@ def rows(text):
 
 
 def shown(text):
-    """The commands in the order of the page: group, name, arguments, answer."""
+    """Yields the commands in the order of the page: group, name, arguments, answer."""
     parts = re.split(r"^## (.*)$", text, flags=re.M)
     for group, body in zip(parts[1::2], parts[2::2]):
         if "| command | answer |" in body:
@@ -57,20 +57,20 @@ def shown(text):
 
 
 def meanings(text):
-    """What the page says of each argument."""
+    """Returns the page's words for each argument."""
     body = text.partition("| argument | what it is |")[2].partition("\n\n")[0]
     found = re.findall(r"^\| (`\w+`(?:, `\w+`)*) \| (.*) \|$", body, re.M)
     return {word: said for words, said in found for word in re.findall(r"\w+", words)}
 
 
 def shape_of(said):
-    """The shape of an argument of which the page says this."""
+    """Returns the shape of an argument by the page's words for it."""
     fitting = [(len(it), shape) for shape, its in SAID.items() for it in its if said.startswith(it)]
     return max(fitting, default=(0, None))[1]
 
 
 def names_in(text):
-    """The names that stand in arguments, as the definitions read them: moves, verdicts, and options that are flags or lists."""
+    """Returns the names in arguments, as the definitions read them: moves, verdicts, and options that are flags or lists."""
     listed = {of: text.partition(f"\n{of}_names =")[2].partition("\n\n")[0] for of in ("move", "verdict")}
     options = {"flags": r'flag_member \(codes "(\w+)"\) ms', "lists": r'\(list_in as_str\) \(get_member \(codes "(\w+)"\) ms'}
     found = {f"{of}s": re.findall(r'codes "(\w+)"', it) for of, it in listed.items()}
@@ -79,7 +79,7 @@ def names_in(text):
 
 
 def wrong_arguments(words, shapes, said):
-    """What is wrong with the arguments of a command on the page, if anything is."""
+    """Returns the fault of the arguments of a command on the page, or None."""
     if len(words) != len(shapes):
         return f"has {len(words)} arguments, and {len(shapes)} in the definitions"
     for word, shape in zip(words, shapes):
@@ -87,12 +87,12 @@ def wrong_arguments(words, shapes, said):
         if word.endswith("?") != (shape != due):
             return f"has {word}, which is {shape} in the definitions"
         if shape_of(said.get(word.rstrip("?"), "")) != due:
-            return f"has {word}, of which the page does not say what {due} is"
+            return f"has {word}, which the page does not describe as {due}"
     return None
 
 
 def wrong_names(names, said):
-    """The arguments of which the page has other names within."""
+    """Yields the faults of arguments for which the page has other names within."""
     due = {"move": names["moves"], "filter": ["name", *names["verdicts"]], "options": [*names["flags"], *names["lists"]]}
     for word, its in due.items():
         quoted = " ".join(re.findall(r"`([^`]*)`", said.get(word, "")))
@@ -101,7 +101,7 @@ def wrong_names(names, said):
 
 
 def wrong_counts(given, served, known):
-    """Where a page says another number of commands."""
+    """Yields the faults of pages that say another number of commands."""
     for path in COUNTING:
         for number, of_definitions in re.findall(r"(\d+) commands( of the definitions)?", given[path]):
             if int(number) != (known if of_definitions else served):
@@ -112,7 +112,7 @@ def wrong_counts(given, served, known):
 
 
 def wrongs(given):
-    """Yields what the page and the definitions do not agree in."""
+    """Yields the differences between the page and the definitions."""
     table, page, said = rows(given[TABLE]), [*shown(given[PAGE])], meanings(given[PAGE])
     names = [it[1] for it in page]
     yield from (f"{PAGE}: it has no row for {it}, which the definitions have" for it in table if it not in names)
@@ -129,14 +129,14 @@ def wrongs(given):
 
 
 def entry(table, group, name, words, answer):
-    """A command of the file."""
+    """Returns a command of the file."""
     shapes, makes = table[name]
     arguments = [{"name": word.rstrip("?"), "shape": shape, "nullable": shape.endswith(MAY_BE_NULL)} for word, shape in zip(words, shapes)]
     return {"group": group, "name": name, "arguments": arguments, "answer": answer, "command": makes}
 
 
 def made(given):
-    """The text of the file: a line for each list of names, and one for each command."""
+    """Returns the text of the file: a line for each list of names, and one for each command."""
     table, line = rows(given[TABLE]), lambda it: json.dumps(it, ensure_ascii=False)
     head = {"written": f"by tools/docs.py from {DEFINITIONS} and {PAGE}; not to be edited", **names_in(given[LINE])}
     lists = "".join(f"  {line(name)}: {line(it)},\n" for name, it in head.items())
@@ -145,7 +145,7 @@ def made(given):
 
 
 def read_if_there(path):
-    """The text of a file; none where there is no such file."""
+    """Returns the text of a file, or None if there is no such file."""
     if not os.path.exists(path):
         return None
     with open(path, encoding="utf-8") as file:

@@ -1,7 +1,7 @@
 """Dialogues with an observer erased, or with all that watches the tree erased, as theorems; tools/rows.py writes them.
 
-What is erased of a dialogue stands beside it in NAME.erased: numbers of observers, each erased alone, and the word `watchers`. The replies
-that are left are read off NAME.out: those to the erased commands go, and of what notify and pending answer, the erased observer's part.
+NAME.erased beside a dialogue lists the erased watchers: numbers of observers, each erased alone, and the word `watchers`. The replies that are left are
+those of NAME.out without the replies to erased commands, and without the erased observer's part of the answers of notify and pending.
 """
 import json
 import os
@@ -40,7 +40,7 @@ def read(root, path):
 
 
 def quoted(text):
-    """A text as antt has it."""
+    """Returns a text as antt has it."""
     marks = text.replace("\\", "\\\\").replace('"', '\\"').replace("\n", "\\n")
     return f'codes "{marks}"' if text else "[]"
 
@@ -50,7 +50,7 @@ def argument(text):
 
 
 def option(value):
-    """An argument that may be missing."""
+    """Returns an argument that may be missing."""
     if value is None:
         return "None"
     return f"(Some {str(value).lower()})"
@@ -66,7 +66,7 @@ class Table:
         self.watching = set(re.findall(r"^only_watches \((\w+).*\) = true$", read(root, WATCHING), re.M))
 
     def options(self, given):
-        """The options of an observer, in the order of the record."""
+        """Returns the options of an observer, in the order of the record."""
         told = []
         for name in sorted(given, key=self.members.index):
             value, field = given[name], re.sub(r"[A-Z]", lambda found: f"_{found[0].lower()}", name)
@@ -78,7 +78,7 @@ class Table:
         return self.rows[line[0]][1].split()[0]
 
     def command(self, line):
-        """A line as the constructor that its row makes of it."""
+        """Returns a line as the constructor that its row makes of it."""
         shapes, term = self.rows[line[0]]
         given = line[1:]
         words = {
@@ -102,7 +102,7 @@ class Table:
 
 
 def left(word, line, reply, table):
-    """What is left of the reply to a line where what a word tells is erased, or None where the line is."""
+    """Returns the rest of the reply to a line if the watchers that a word names are erased, or None if the line is erased."""
     if word == "watchers":
         return None if table.constructor(line) in table.watching else reply
     erased = int(word)
@@ -120,7 +120,7 @@ def printed(reply):
 
 
 def theorems(name, erased, lines, replies, table):
-    """The commands of one dialogue, each with what is left of its reply for each that is erased, and the theorems."""
+    """Yields the commands of one dialogue, each with the rest of its reply for each erased watcher, and the theorems."""
     row = " × ".join(["Command", *("List ℕ" for _ in erased)])
     rows = ([table.command(line), *(printed(left(word, line, reply, table)) for word in erased)] for line, reply in zip(lines, replies))
     yield f"\nabbrev {name} : List ({row})\n{name} ={layout.listing(rows)}\n"
@@ -133,7 +133,7 @@ def theorems(name, erased, lines, replies, table):
 
 
 def write(root, dialogues):
-    """Writes the theorems of the dialogues, each told by its name, what is erased, its bytes and those that are due."""
+    """Writes the theorems of the dialogues. Each dialogue is its name, its erased watchers, its bytes and the expected ones."""
     table, used, made = Table(root), set(), []
     for name, erased, given, due in dialogues:
         lines = [json.loads(line) for line in given.splitlines()]

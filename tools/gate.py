@@ -1,10 +1,10 @@
 #!/usr/bin/env python3
 """Does the long work of the gate in the best order: every crate and its tests are proved, and the edits that must fail are tried.
 
-A crate is proved as soon as those below it are, with the threads that its share of the text allows. What nothing waits for, as tests and edits, fills what these
-proofs leave free, at a lower priority: as many at once as there are processors (RT_JOBS says how many else), one fewer while something is proved. All is kept beside the kit, by the sums of what was
-read: `rt ci`, which is the judge, then finds the proofs, and `tools/edits.py` what the edits came to. Nothing is decided here, so the status is 0 also where
-something has no proof.
+A crate is proved as soon as those below it are, with the threads that its share of the text allows. Tests and edits, for which nothing waits, run beside
+these proofs at a lower priority. As many of them run at once as there are processors (or as RT_JOBS says), one fewer while something is proved. All is
+kept beside the kit, by the sums of the files that were read. `rt ci`, which is the judge, then finds the proofs, and `tools/edits.py` the outcomes of the
+edits. Nothing is decided here, so the status is 0 even if something has no proof.
 """
 import argparse
 import contextlib
@@ -19,13 +19,13 @@ import edits
 import start
 
 TESTS = "tests"
-# The most threads of a proof beside tests or edits, which lack what a third one wastes.
+# The most threads of a proof beside tests or edits: a third thread wastes processor time that those lack.
 MOST_BESIDE = 2
 
 
 class Turns:
-    """Who may run: each proof at once, and of what nothing waits for as many as there are processors, one fewer beside a proof: those of the most lines first, so
-    that nothing long is left for the end."""
+    """The order of proofs and of other tasks, for which nothing waits. A proof runs at once. As many of the others run as there are processors, one fewer
+    beside a proof. Those of the most lines are first, so that nothing long is left for the end."""
 
     def __init__(self, processors):
         self.processors, self.proofs, self.others, self.waiting = processors, 0, 0, []
@@ -86,7 +86,7 @@ class Gate(edits.Edits):
         return tasks
 
     def is_waited_for(self, crate):
-        """Returns whether a crate is what is built, a program or an archive, or another one stands on it."""
+        """Returns whether a crate is built as a program or an archive, or another one depends on it."""
         above = (it for it in self.crates.values() if it.name != crate.name)
         is_built = (crate.is_program or crate.is_static) and start.target_of(crate) == start.HERE
         return is_built or any(crate.name == below.name for it in above for below in it.below())
@@ -124,7 +124,7 @@ class Gate(edits.Edits):
 
 def main():
     words = argparse.ArgumentParser(description=__doc__, formatter_class=argparse.RawDescriptionHelpFormatter)
-    words.add_argument("crates", nargs="*", metavar="CRATE", help="these crates and what stands below them, in place of all")
+    words.add_argument("crates", nargs="*", metavar="CRATE", help="these crates and those below them, in place of all")
     names = words.parse_args().crates or [*start.listed()]
     for it in names:
         if it not in start.listed():
@@ -136,7 +136,7 @@ def main():
         return 0
     number = os.environ.get("RT_JOBS", "")
     processors = int(number) if number.isdigit() and int(number) else rt.processors()
-    # (the kit begins whatever it may; who has to wait is decided here)
+    # (the kit begins all tasks that it may; this script decides which have to wait)
     os.environ["RT_JOBS"] = str(3 * len(names) + 1)
     with start.workplace(rt) as top:
         Gate(rt, top, names, processors).run()

@@ -1,7 +1,7 @@
 #!/usr/bin/env python3
-"""Runs a command, hands its output on as it comes, and lists what its tests left out ahead of the last line; it ends as the command does.
+"""Runs a command, prints its output as it arrives, and lists the tests that were left out ahead of the last line. It ends with the command's status.
 
-A test says what it leaves out in a line `left out: WHAT, since WHY`. What node's and Python's own runners say of a test that is skipped is taken
+A test that leaves something out prints a line `left out: WHAT, since WHY`. The lines of node's and Python's own runners about a skipped test are taken
 as the same. Each reason is listed once, with all that was left out for it.
 """
 import re
@@ -21,27 +21,27 @@ MOST = 8
 
 
 def left_out(line):
-    """What a line says that was left out, and why; or nothing."""
+    """Returns the name of a test that a line says was left out, and why; or None."""
     found = next((it for it in (form.fullmatch(line) for form in FORMS) if it), None)
-    return (found["what"], found["why"] or "no reason was told") if found else None
+    return (found["what"], found["why"] or "no reason is given") if found else None
 
 
 def shortened(names):
-    """The first names of a list, and how many more there are."""
+    """Returns the first names of a list, and how many more there are."""
     return "; ".join(names[:MOST]) + (f"; and {len(names) - MOST} more" if len(names) > MOST else "")
 
 
 def listed(found):
-    """The list, as lines: each reason with what was left out for it."""
+    """Returns the list, as lines: each reason with all that was left out for it."""
     by_reason = {}
     for what, why in found:
         by_reason.setdefault(why, []).append(what)
     lines = [f"  {why}: {shortened([*dict.fromkeys(names)])}" for why, names in by_reason.items()]
-    return ["left out, by what was missing:", *lines] if lines else ["nothing was left out"]
+    return ["left out, by the reason:", *lines] if lines else ["nothing was left out"]
 
 
 def handed_on(source, to):
-    """Hands lines on as they come, but for the last one; returns that one and what the lines say that was left out."""
+    """Writes lines as they arrive, but for the last one. Returns the last one, and the tests that lines say were left out."""
     last, found = b"", []
     for line in source:
         to.write(last)

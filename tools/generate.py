@@ -1,11 +1,15 @@
 #!/usr/bin/env python3
-"""Writes generated/: the proved program and the proved library as assembly, for each processor of a release; the WebAssembly module and its calls; the header for
-C; and SUMS, which names for each the sum of the sources that it was made of, and its own.
+"""Writes the files of generated/:
 
-What is missing of the proofs is proved first, for each processor, and kept in the kit's store; the code is what these proofs left, compiled by the kit's own
-clang with the kit's own words, but to assembly. A file is written only where its content is another, so what is not made anew stays byte for byte.
+- the proved program and the proved library as assembly, for each processor of a release
+- the WebAssembly module and its calls
+- the header for C
+- SUMS, with the sum of each file, and the sum of its sources
 
-With --check nothing is written, and it fails where what the proofs leave is not what stands there.
+Missing proofs are made first, for each processor, and kept in the kit's store. They leave code, which the kit's own clang compiles with the kit's own words,
+but to assembly. A file is written only if its content is another, so the others stay byte for byte.
+
+With --check nothing is written, and it fails if a file is not the one that the proofs leave.
 """
 import argparse
 import concurrent.futures
@@ -26,9 +30,9 @@ from start import PROGRAM, ROOT
 
 sys.dont_write_bytecode = True
 TARGETS = {start.HERE: "x86_64", start.ARM: "aarch64"}
-# How xz packs, whatever its version takes by itself.
+# The filters of xz, so that its version's defaults do not matter.
 FILTERS = [{"id": lzma.FILTER_LZMA2, "preset": 9 | lzma.PRESET_EXTREME}]
-# All that may stand in the folder, in bytes; and how many files are kept beside the kit's store.
+# The most bytes of the folder, and the most files that are kept beside the kit's store.
 MOST, MOST_KEPT = 3_000_000, 40
 HEAD = """\
 # The proved code of {program} and of the library, written by {writer}; `sha256sum --check SUMS` in this folder compares the files.
@@ -37,7 +41,7 @@ HEAD = """\
 
 
 def module(name, path):
-    """A script as a module, with the folder of its own imports."""
+    """Returns a script as a module, with the folder of its own imports."""
     sys.path.insert(0, os.path.dirname(path))
     spec = importlib.util.spec_from_file_location(name, path)
     found = importlib.util.module_from_spec(spec)
@@ -46,12 +50,12 @@ def module(name, path):
 
 
 def kit():
-    """Returns how the kit names itself."""
+    """Returns the kit's name and version."""
     return subprocess.run(["rt", "version"], stdout=subprocess.PIPE, text=True, check=True).stdout.strip()
 
 
 def words_of(name, target, code, to):
-    """Returns the words by which clang makes assembly of the code: those of the kit, which ask for an object."""
+    """Returns the words for clang to compile the code to assembly. They are the kit's words, which ask for an object, with changes."""
     with open(f"{start.code_of(name, target)}.words", encoding="utf-8") as file:
         words = file.read().splitlines()
     if words.count("-c") != 1 or words.count("-x") != 1:
@@ -69,7 +73,7 @@ def sum_of_bytes(*parts):
 
 
 def kept(key, make):
-    """Returns what is made, which is kept beside the kit's store under a sum of all that it is made of, and then not made again."""
+    """Returns the content that `make` returns. It is kept beside the kit's store under a sum of its sources, and then not made again."""
     folder = f"{start.kit().STORE}/generated"
     with contextlib.suppress(OSError), open(f"{folder}/{key}", "rb") as file:
         whole = lzma.decompress(file.read())
@@ -104,7 +108,7 @@ def compile(clang, name, target, to):
 
 
 def make_module(to):
-    """Makes the WebAssembly module and its calls; returns why that cannot be done here, or None."""
+    """Makes the WebAssembly module and its calls. Returns why that cannot be done here, or None."""
     web = module("web_make", f"{ROOT}/bindings/web/make.py")
     why = web.lacking()
     if why:
@@ -134,7 +138,7 @@ def make_header(to):
 
 
 def make(to):
-    """Makes all files in a folder, side by side, without xz; returns what could not be made here, and why."""
+    """Makes all files in a folder, side by side, without xz. Returns the files that could not be made here, and why."""
     for it in (HEAP, SYSTEM):
         shutil.copy(f"{FOLDER}/{it}", to)
     clang = f"{start.kit().KIT}/toolchain/bin/clang"
@@ -153,7 +157,7 @@ def bytes_of(path):
 
 
 def content(name):
-    """Returns the content of a file of generated/, without xz; or None where it is not there, or is no whole file of xz."""
+    """Returns the content of a file of generated/, without xz, or None if it is missing or no whole file of xz."""
     try:
         whole = bytes_of(f"{FOLDER}/{name}")
         return lzma.decompress(whole) if name.endswith(".xz") else whole
@@ -171,7 +175,7 @@ def sums(names, folder):
 
 
 def compared(made, names, left):
-    """Returns what is wrong with generated/, beside what was made now."""
+    """Returns the faults of generated/ beside the files made now."""
     wrong = [f"generated/{it} is not what the proof leaves" for it in names if it not in left and content(it) != bytes_of(f"{made}/{it}")]
     wrong += [f"generated/{it} is not made by {WRITER}" for it in sorted(os.listdir(FOLDER)) if it not in (*names, "SUMS")]
     there = all(os.path.isfile(f"{FOLDER}/{it}") for it in names)
@@ -181,7 +185,7 @@ def compared(made, names, left):
 
 
 def put(made, names):
-    """Writes the files whose content is another, and SUMS; returns their names."""
+    """Writes the files whose content is another, and SUMS. Returns their names."""
     written = []
     for it in names:
         whole = bytes_of(f"{made}/{it}")
@@ -200,7 +204,7 @@ def put(made, names):
 
 def main():
     words = argparse.ArgumentParser(description=__doc__, formatter_class=argparse.RawDescriptionHelpFormatter)
-    words.add_argument("--check", action="store_true", help="write nothing, and fail where generated/ is not what the proofs leave")
+    words.add_argument("--check", action="store_true", help="write nothing, and fail if generated/ is not what the proofs leave")
     given = words.parse_args()
     names = [HEAP, SYSTEM, HEADER, *(assemble.assembly(name, it) for name in (PROGRAM, LIBRARY) for it in TARGETS.values()), MODULE, CALLS]
     if not start.start([PROGRAM, LIBRARY], (start.ARM,), has_code=True):

@@ -1,7 +1,7 @@
 """The layers of crates.txt, which graphviz (`dot`) draws as docs/layers.svg.
 
-A box is a crate, with what SAYS has to say of it. An arrow leads to each crate that it lists, but to dom_model, which nearly all list and which is drawn
-as the ground; and not to those that another crate which it lists stands on as well.
+A box is a crate, with its words in SAYS. Arrows lead to the crates that it lists. There is none to a crate that another of these depends on, and none to
+dom_model, which nearly all list, and which is drawn as the ground.
 """
 import html
 import re
@@ -19,7 +19,7 @@ SAYS = {
     "dom_serve": "bytes in, lines, replies, bytes out",
     "dom_wire": "a line to a command, a reply to a line",
     "dom_session": "commands on one world, and answers",
-    "dom_wrap": "what is put into and around a range",
+    "dom_wrap": "insertions into and around a range",
     "dom_content": "the contents of ranges",
     "dom_clone": "copies, equality, positions",
     "dom_data": "character data, Texts, attributes",
@@ -34,7 +34,7 @@ SAYS = {
     "dom_pages": "tables in pages that are given back",
     "dom_slots": "numbers that come and go, without gaps",
     "dom_chains": "items in the chain of their key",
-    "dom_ids": "the numbers by which callers name things",
+    "dom_ids": "callers' numbers of things",
     "dom_units": "texts as UTF-16 units",
     "dom_kinds": "kinds, labels, names, exceptions",
     "dom_c": "the core as a C library",

@@ -4,7 +4,7 @@ WIDTH = 160
 
 
 def listing(rows):
-    """What stands after `NAME =` where the list has these rows, each told by its parts."""
+    """Returns the text of a list after `NAME =`. Each row is a tuple of these parts."""
     listed = ""
     for parts in rows:
         row = f"({', '.join(parts)})"

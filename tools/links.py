@@ -107,7 +107,7 @@ def quotes(page):
 
 
 def names_in(quoted, page):
-    """Returns the names that are quoted: one, or those of a path of names; none where it is something else."""
+    """Returns the quoted names: one, or those of a path of names; none if the quote is something else."""
     is_name = re.search(r"[A-Z_:]", quoted) or page in PAGES_OF_NAMES
     return quoted.split("::") if is_name and re.fullmatch(r"[A-Za-z_]\w*(::\w+)*", quoted) else []
 

@@ -1,8 +1,8 @@
 #!/usr/bin/env python3
 """Checks the form of sources by the linters of each language, and that the man page and the completions of domserve have its options.
 
-The options are read from the source `options.rt` of their crate, with their bounds and defaults; --help and, where the source has a version, --version are
-clap's own. What this machine has no tool for is left out, with a line that says so. With --write it lays the sources in C out.
+The options are read from the source `options.rt` of their crate, with their bounds and defaults. --help is clap's own, and so is --version if the source
+has a version. Tests whose tools this machine lacks are left out, with a line that says so. With --write it lays the sources in C out.
 """
 import argparse
 import glob
@@ -34,7 +34,7 @@ def text_of(file):
 
 
 def said(*words, given=None, is_silent=False, **variables):
-    """The faults that a tool tells, as lines; none where it passes. One that is silent then has a fault where it says anything."""
+    """Returns a tool's messages of faults, as lines; none if it passes. For a tool that is silent if it passes, any output is a fault."""
     how = {"input": given, "env": {**os.environ, **variables}, "text": True, "errors": "replace"}
     ran = subprocess.run(words, cwd=ROOT, stdout=subprocess.PIPE, stderr=subprocess.STDOUT, check=False, **how)
     is_wrong = ran.returncode or (is_silent and ran.stdout.strip())
@@ -54,7 +54,7 @@ def source_of_options():
 
 
 def options():
-    """Each option that takes a value: its name, what the value is called, its greatest value and its default."""
+    """Returns the options that take a value: the name, the value's name, its greatest value and its default."""
     text = source_of_options()
     return re.findall(r'\.long\("(\w+)"\)\s*\.value_name\("(\w+)"\).*?\.range\(1\.\.=(\d+)\)\)\s*\.default_value\("(\d+)"\)', text, re.S)
 
@@ -65,7 +65,7 @@ def long_names():
 
 
 def man_page():
-    """What the man page has otherwise than the source: its options, and the words, bounds and defaults of each."""
+    """Returns the differences of the man page from the source: in its options, and in the words, bounds and defaults of each."""
     text = text_of(MAN)
     found = set(re.findall(r"Fl Fl (\w+)", text))
     wrong = [] if found == long_names() else [f"{MAN}: it has the options {sorted(found)}, where the program has {sorted(long_names())}"]
@@ -108,7 +108,7 @@ def javascript():
 
 
 def doxygen():
-    """What doxygen warns of in the header, which is made of the exports."""
+    """Returns doxygen's warnings about the header, which is made of the exports."""
     with tempfile.TemporaryDirectory() as folder:
         words = [sys.executable, "-c", "from exports import SOURCES, modules\nfrom header import header\nprint(header(modules(SOURCES)), end='')"]
         made = subprocess.run(words, cwd=f"{ROOT}/bindings/c", stdout=subprocess.PIPE, check=True).stdout
@@ -118,12 +118,12 @@ def doxygen():
 
 
 def mandoc():
-    """What mandoc says of the pages for man. (Its rules of style ask for installed pages, which the others name.)"""
+    """Returns mandoc's messages about the pages for man. (Its rules of style ask for installed pages, which the others name.)"""
     return said("mandoc", "-T", "lint", "-W", "style", MAN) + said("mandoc", "-T", "lint", "-W", "warning", *files(f"{SHARE}/man/*/*"))
 
 
 def units():
-    """What systemd says of the units, in copies that start a program which is there, since it asks for that too."""
+    """Returns systemd's messages about the units, in copies that start an existing program, since it checks that too."""
     with tempfile.TemporaryDirectory() as folder:
         made = {f"{folder}/{os.path.basename(it)}": re.sub(r"(?m)^ExecStart=\S+", "ExecStart=/bin/true", text_of(it)) for it in files("serving/units/*")}
         for path, text in made.items():
@@ -133,11 +133,11 @@ def units():
 
 
 def lacking(tools):
-    """Why a linter is not run here, or None."""
+    """Returns why a linter is not run here, or None."""
     return None if not tools or any(shutil.which(it) for it in tools) else f"there is no {' and no '.join(tools)}"
 
 
-# What each test is, the tools of which one is enough, and the test.
+# The name of each test, its tools (one of them is enough), and the test.
 TESTS = (
     ("the man page has the options", (), man_page),
     ("the completions have the options", (), completions),

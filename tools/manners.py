@@ -70,7 +70,7 @@ def a_full_disk(program):
 
 
 def a_file_that_may_not_grow(program):
-    """What fits is written."""
+    """The part that fits is written."""
     def bounded():
         signal.signal(signal.SIGXFSZ, signal.SIG_IGN)
         resource.setrlimit(resource.RLIMIT_FSIZE, (12, 12))
@@ -222,7 +222,7 @@ def table_of_commands(_):
 
 
 def example_of_help(program):
-    """The example that --help shows prints what stands below it."""
+    """The example that --help shows prints the lines below it."""
     shown = run(program, "--help")[1].decode().partition("Example:\n")[2].partition("\n\n")[0]
     if not shown:
         raise Wrong("there is no example")

@@ -1,6 +1,6 @@
 #!/usr/bin/env python3
-"""Builds the program and the library of the assembly for aarch64 by Debian's cross compiler, and tries both under qemu: dialogues byte for byte, the tests of the
-library for C, and the tests of the package for Python where a Python for aarch64 is there.
+"""Builds the program and the library of the assembly for aarch64 by Debian's cross compiler, and tries both under qemu. It runs the dialogues byte for byte,
+the tests of the library for C, and, if there is a Python for aarch64, the tests of the package for Python.
 
 With --install such a Python is taken from Debian's packages, into the folder where this looks for it. The last line says how many parts passed and failed.
 """
@@ -20,12 +20,12 @@ sys.dont_write_bytecode = True
 MACHINE, COMPILER = "aarch64", "aarch64-linux-gnu-gcc"
 LIBC = "/usr/aarch64-linux-gnu"
 QEMU = ("qemu-aarch64-static", "-L", LIBC)
-# Where a Python for aarch64 is kept, and the packages that it is put together of.
+# The folder of a Python for aarch64, and the packages that it is made of.
 PYTHON = "/usr/local/lib/huckleport/aarch64"
 PACKAGES = "python3.11-minimal libpython3.11-minimal libpython3.11-stdlib libpython3.11-dev libpython3.11 libc6 libexpat1 zlib1g libssl3 libffi8 libbz2-1.0 liblzma5 libuuid1".split()
-# The tests of the library that say most of another processor: what is handed in and out, and its layout.
+# The tests of the library that show most about another processor: arguments, results, and their layout.
 PARTS = ("lines", "said", "closed", "misuse", "counted", "threads", "example")
-# The tests of the package that say most of another processor, and how they are run: another Python is started through qemu too.
+# The tests of the package that show most about another processor, and the code that runs them: another Python is started by qemu too.
 TESTS = [f"tests.test_{it}" for it in ("dialogues", "answers", "documents", "members")]
 RUN = "import sys, unittest; sys.executable = sys.argv.pop(1); unittest.main(None)"
 # The longest that a part may take, in seconds.
@@ -41,7 +41,7 @@ def lacking():
 
 
 def passes(*words, **how):
-    """Runs a command, and answers whether it passed."""
+    """Runs a command, and returns whether it passed."""
     ran = subprocess.run(words, stdin=subprocess.DEVNULL, stdout=subprocess.PIPE, stderr=subprocess.STDOUT, text=True, errors="replace", timeout=LIMIT, check=False, **how)
     lines = ran.stdout.strip().splitlines()
     print("\n".join(lines[-30:] if ran.returncode else lines[-1:]), flush=True)
@@ -49,7 +49,7 @@ def passes(*words, **how):
 
 
 def module(name, path):
-    """A script as a module."""
+    """Returns a script as a module."""
     sys.path.insert(0, os.path.dirname(path))
     spec = importlib.util.spec_from_file_location(name, path)
     found = importlib.util.module_from_spec(spec)
@@ -73,7 +73,7 @@ def library(room):
             return super().run(*([*QEMU, "-E", f"LD_LIBRARY_PATH={self.folder}"] if words[0].startswith(self.work + os.sep) else []), *words, given=given)
 
         def said(self):
-            """The dialogues through the calls, as C: how that is written is read off the library of this machine."""
+            """Runs the dialogues through the calls, as C that is written by the library of this machine."""
             source = os.path.join(self.work, "said.c")
             here = f"{ROOT}/bindings/c/out"
             words = ["--library", f"{here}/libhuckleport.so", "--header", f"{here}/huckleport.h", "--write", source]
@@ -115,8 +115,8 @@ def has_python():
 
 
 def take(packages, to):
-    """Takes packages for aarch64 from Debian, unpacked below a folder, with the list that dpkg keeps of them; answers whether it could. What is installed here
-    stays as it is: lists of that processor are kept in a folder of their own.
+    """Takes packages for aarch64 from Debian, unpacked below a folder, with the list that dpkg keeps of them. Returns whether it could. The installed packages
+    stay as they are: lists of that processor are kept in a folder of their own.
     """
     with tempfile.TemporaryDirectory() as room:
         for it in ("lists/partial", "cache/archives/partial", "taken", "whole/var/lib/dpkg"):

@@ -13,9 +13,9 @@ import sys
 from running import LIMIT, dialogues, takes_folders, words_of
 
 SIZES = (1, 7, 65536)
-# At how many places a dialogue is cut in two.
+# The number of places at which a dialogue is cut in two.
 CUTS = 12
-# The stack that the program has to do with, in bytes, as docs/commands.md says; and how deep lines are nested on it.
+# The bytes of stack that suffice for the program, as docs/commands.md says, and how deep lines are nested on it.
 STACK, DEEPEST = 256 * 1024, 300
 
 
@@ -27,7 +27,7 @@ def takes(parser):
 
 
 def ways(given, cuts):
-    """Yields how a dialogue is handed to the program: a name, and the pieces."""
+    """Yields the ways in which a dialogue is written to the program: a name, and the pieces."""
     yield "whole", [given] if given else []
     for size in SIZES:
         yield f"in pieces of {size}", [given[at : at + size] for at in range(0, len(given), size)]
@@ -36,7 +36,7 @@ def ways(given, cuts):
 
 
 def served(words, pieces):
-    """Returns the status of a run and what it wrote; each piece is one read."""
+    """Returns the status and the output of a run. Each piece is one read."""
     reading, writing = os.pipe2(os.O_DIRECT)
     with subprocess.Popen(words, stdin=reading, stdout=subprocess.PIPE, stderr=subprocess.STDOUT) as ran:
         os.close(reading)
@@ -59,7 +59,7 @@ def write(pipe, pieces):
 
 
 def fault_of(given, dialogue):
-    """Returns how many ways a dialogue was served, and what is wrong with one of them, if anything is."""
+    """Returns how many ways a dialogue was served in, and the fault of the last one, or None."""
     words = [*given.before.split(), given.program, *dialogue.words]
     count = 0
     for way, pieces in ways(dialogue.given, len(dialogue.given) if given.every else given.cuts):

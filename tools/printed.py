@@ -17,28 +17,28 @@ from start import ROOT
 
 PASSED_OVER = (
     (r"\.ci/run|\./test\b|\brt (ci|all)\b", "the gate itself, which proves all from nothing"),
-    (r"--install|\bpip install|\bnpm install|\binstall -m|\bapt(-get)? |\bsystemctl\b|\bdocker\b|\bpodman\b", "installs, or needs what is not here"),
+    (r"--install|\bpip install|\bnpm install|\binstall -m|\bapt(-get)? |\bsystemctl\b|\bdocker\b|\bpodman\b", "installs, or needs something that is not here"),
     (r"\b(NAME|FILE|PREFIX|FOLDER|CRATE)\b|-0\.\d", "a form, with words to put in"),
     (r"\btools/(refused|size|docs\.py run)\b|\bbench|\brt \w+|playground", "a long run by hand"),
 )
-# What a block is not run without, by the first word of one of its lines.
+# The tools without which a block is not run, as the first words of its lines.
 TOOLS = ("cargo", "node", "gcc", "python3", "socat", "doxygen", "man")
 # The oldest node that the package for JavaScript runs in.
 LEAST_NODE = 20
 # The longest that a block may take, in seconds.
 LIMIT = 900
-# What runs made, and what is taken over of it.
+# The files that runs made, and those of them that are copied.
 MADE = (".git", "out", "build", "target", "node_modules", "__pycache__", "tmp")
 BUILT = ("crates/domserve/out/domserve", "crates/dom_c/out/dom_c", "crates/dom_c/out/dom_c.bc")
 FENCED = re.compile(r"(?:^`(?P<file>[\w./-]+)`:\n\n)?^```(?P<language>\w*).*?\n(?P<text>.*?)^```\n(?:\n*```text\n(?P<shown>.*?)^```)?", re.M | re.S)
 INDENTED = re.compile(r"(?<=\n\n)((?:    \S.*\n)+)")
 
-# A block to save (with a file), or to run, with what it prints if anything is shown.
+# A block to save (with a file), or to run, with its output if the page shows one.
 Block = namedtuple("Block", "file script shown")
 
 
 def blocks(page):
-    """Yields what is saved and run of a page, in its order; single lines come last."""
+    """Yields the blocks of a page that are saved or run, in its order. Single lines are last."""
     with open(page, encoding="utf-8") as it:
         text = it.read()
     for found in FENCED.finditer(text):
@@ -50,11 +50,11 @@ def blocks(page):
 
 
 def save(block, folder):
-    """Saves a block in its file; returns why it may not, where the repository has another file of that name."""
+    """Saves a block in its file. Returns why it may not if the repository has another file of that name."""
     path = os.path.join(folder, block.file)
     if os.path.exists(path):
         with open(path, encoding="utf-8") as it:
-            return None if it.read() == block.script else "the page has it otherwise than it stands there"
+            return None if it.read() == block.script else "the file has other content than the page"
     os.makedirs(os.path.dirname(path), exist_ok=True)
     with open(path, "w", encoding="utf-8") as it:
         it.write(block.script)
@@ -62,7 +62,7 @@ def save(block, folder):
 
 
 def fault_of(block, folder):
-    """Returns what is wrong with a script once it has run, if anything is; what it left running is ended with it."""
+    """Runs a script, and returns its fault, or None. Processes that it left running are ended with it."""
     words = ["timeout", "--kill-after=1", str(LIMIT), "bash", "-euo", "pipefail", "-c", block.script]
     ran = subprocess.run(words, cwd=folder, stdin=subprocess.DEVNULL, capture_output=True, text=True, errors="replace", check=False)
     if ran.returncode:
@@ -78,7 +78,7 @@ def major_of(tool):
 
 
 def reason(script):
-    """Returns why a script is not run, if it is not: what it is, or the tool that it lacks."""
+    """Returns why a script is passed over, and why it is left out; each is None if it is not."""
     found = next((why for pattern, why in PASSED_OVER if re.search(pattern, script)), None)
     if re.search(r"\bbindings/python\b", script) and not os.path.isfile(f"{sysconfig.get_path('include')}/Python.h"):
         return found, "there is no Python.h"
@@ -89,7 +89,7 @@ def reason(script):
 
 
 def fresh(folder):
-    """Copies the repository, without what runs made but for the proved program and library."""
+    """Copies the repository, without the files that runs made but for the proved program and library."""
     shutil.copytree(ROOT, folder, symlinks=True, ignore=shutil.ignore_patterns(*MADE))
     for it in [*BUILT, *(f"{name}.sum" for name in BUILT)]:
         if os.path.isfile(f"{ROOT}/{it}"):
@@ -98,7 +98,7 @@ def fresh(folder):
 
 
 def run(page, folder):
-    """Runs a page in a folder, and yields for each block what is said of it, and whether it ran and failed."""
+    """Runs a page in a folder, and yields for each block the line to print, and whether it ran and failed."""
     for block in blocks(f"{folder}/{page}"):
         passed_over, lacking = reason(block.script) if not block.file else (None, None)
         name = f"{page}: {block.script.strip().splitlines()[0]}"
@@ -116,7 +116,7 @@ def run(page, folder):
 
 
 def run_all(pages):
-    """Runs pages, or all if none is given, prints what is said of each block, and returns how many failed."""
+    """Runs pages, or all if none is given, prints a line for each block, and returns how many failed."""
     ran = failed = 0
     for page in pages or ["README.md", *sorted(os.path.relpath(it, ROOT) for it in glob.glob(f"{ROOT}/docs/*.md"))]:
         with tempfile.TemporaryDirectory() as top:

@@ -1,4 +1,4 @@
-"""How far long work is, and about how long is left: on a terminal as a bar that moves, else as a line a minute on standard error."""
+"""The progress of long work, and about how long is left: on a terminal as a bar that moves, otherwise as a line a minute on standard error."""
 import contextlib
 import json
 import os
@@ -6,7 +6,7 @@ import sys
 import threading
 import time
 
-# How often it is told, in seconds: on a terminal, and elsewhere.
+# How often it is written, in seconds: on a terminal, and elsewhere.
 MOVES, LINES = 1, 60
 WIDTH = 30
 
@@ -18,7 +18,7 @@ def clock(seconds):
 
 
 class Figures:
-    """How many seconds parts took at an earlier time, in a file that may be lost."""
+    """The seconds that parts took at an earlier time, in a file that may be lost."""
 
     def __init__(self, path):
         self.path, self.of, self.changing = path, {}, threading.Lock()
@@ -36,7 +36,7 @@ class Figures:
 
 
 class Progress:
-    """Parts with the seconds that each is likely to take, so many of them side by side."""
+    """The progress of parts, each with the seconds that it is likely to take. `lanes` of them run side by side."""
 
     def __init__(self, name, seconds, lanes, to=None):
         self.name, self.seconds, self.lanes, self.to = name, dict(seconds), lanes, to or sys.stderr
@@ -54,7 +54,7 @@ class Progress:
             self.done.add(part)
 
     def left(self):
-        """Returns about how many seconds are left: what the parts have left, shared by the lanes, and no less than what one of them has."""
+        """Returns about how many seconds are left: those of all parts, shared by the lanes, and no fewer than those of one part."""
         now = time.monotonic()
         with self.changing:
             # (one that takes longer than it did is taken for nearly done)
@@ -85,7 +85,7 @@ class Progress:
             self.to.flush()
 
     def clear(self):
-        """Takes the bar away, for a line of something else."""
+        """Clears the bar, for another line."""
         if self.is_bar:
             self.to.write("\r\x1b[K")
             self.to.flush()

@@ -1,24 +1,23 @@
 #!/usr/bin/env python3
-"""Runs what `rt ci` built once more under a malloc that refuses growths, and counts the blocks in use at the end.
+"""Runs the builds of `rt ci` once more under a malloc that refuses growths, and counts the blocks in use at the end.
 
-Parts (all, where none is named):
-  store      the tests of single low crates whose names end with `without_a_growth`, every growth refused from their first mark on: each asks
-             for the second mark's room alone, and passes; and the tests that meet each growth refused in turn and must pass, as a
-             thousand `add`s, `cover`, `observe` on a hundred nodes
-  tests      each test of single crates with one growth refused: it passes, or it ends with its own word that memory was wanting; those
-             that compare what stands then must pass
-  dialogues  the program over each dialogue with one growth refused, and with all from one on: the first reply lines, never fewer than
-             with an earlier growth refused, then the out-of-memory line, and status 1; where a smaller one does all are there
-  writers    the same with writers that fail: a closed one, one that is always full, one that is full after some bytes; status 3, and
-             the reason if there was memory for it
-  leaks      the program under valgrind over each dialogue, whole and with single growths refused; left out where there is no valgrind
-  room       the program over scenes in which Texts and attributes lose most of what they had, with the bytes in use at once counted;
-             and over smaller ones, as over dialogues
+Parts (all, if none is named):
 
-A test that ends by itself, and each run of the program, leaves no block in use. Of each test or dialogue some growths are refused, spread
-over all of them; with --whole, and of a test of several scenes, each, of a test at most 3,000. A test of more than 100,000 growths runs
-with none refused.
-The last line is `N runs, M bad`; the status is 1 where M is not 0.
+- store: the tests of single low crates whose names end with `without_a_growth`. Every growth is refused from their first mark on. Each asks only for the
+  second mark's room, and passes. Then the tests that must pass with each growth refused in turn, as a thousand `add`s, or `observe` on a hundred nodes.
+- tests: each test of single crates with one growth refused. It passes, or ends with its own message of out of memory. Tests that compare the state after
+  a refusal must pass.
+- dialogues: the program over each dialogue with one growth refused, and with all from one on. It writes the first reply lines, never fewer than with an
+  earlier growth refused, then the out-of-memory line, and ends with status 1. If a smaller growth suffices, it writes all replies.
+- writers: the same with writers that fail: a closed one, one that is always full, one that is full after some bytes. The status is 3, and the reason is
+  written if there was memory for it.
+- leaks: the program under valgrind over each dialogue, whole and with single growths refused. It is left out if there is no valgrind.
+- room: the program over scenes in which Texts and attributes lose most of their content, with the bytes in use at once counted. Then over smaller scenes,
+  as over dialogues.
+
+A test that ends by itself, and each run of the program, leaves no block in use. Some growths of each test or dialogue are refused, spread over all of them.
+With --whole, and in a test of several scenes, each growth is refused, but at most 3,000 of a test. A test of more than 100,000 growths runs with none
+refused. The last line is `N runs, M bad`; the status is 1 if M is not 0.
 """
 import argparse
 import multiprocessing
@@ -33,9 +32,9 @@ from collections import Counter, namedtuple
 import room_scenes
 from running import Dialogue, LIMIT, OUT_OF_MEMORY, PROGRAM, ROOT, Run, dialogues, refusing_malloc, run
 
-# For each part the growths of a test or dialogue that are refused where nothing else is said; of `store` it is each.
+# The most growths of a test or dialogue that are refused by default, for each part; `store` refuses each.
 PARTS = {"store": sys.maxsize, "tests": 60, "dialogues": 40, "writers": 3, "leaks": 1, "room": sys.maxsize}
-# A test of more growths is run with none refused, since each run takes long.
+# A test of more growths is run with none refused, since each run takes long; WHOLE is the most growths of a test that are refused.
 HEAVY = 100_000
 WHOLE = 3000
 
@@ -56,7 +55,7 @@ STAND = {
     ("store_cases", "numbered_items::refused_room"): 10,
     ("observer_cases", "registrations::a_hundred_nodes"): 100,
 }
-# Tests of several scenes, of which each growth is refused: so each scene meets its own.
+# Tests of several scenes. Each of their growths is refused, so each scene meets its own.
 SCENES = {
     ("tree_cases", "points::points_of_small_trees"),
     ("range_cases", "ranges::scenes"),
@@ -66,28 +65,28 @@ SCENES = {
 WANTING = b"domserve: out of memory\n"
 UNWRITTEN = re.compile(rb"domserve: write failed(: (Bad file descriptor|No space left on device|File too large))?\n")
 COUNTS = re.compile(rb"growths (\d+), refused (\d+), left (-?\d+), most (\d+)\n")
-# How a test says that memory was wanting: by its answer, or at its assertion that memory was there.
+# A test's message of out of memory: its error, or its assertion that there is memory.
 SAYS = re.compile(rb"^error: Alloc(Error|Failed \{ \.\. \})$", re.M)
 ASSERTS = re.compile(rb"^(assertion failed: ([a-z_]+\.is_ok\(\)|through_a_pointer\(rt\.alloc\(\)\) == Some\(.*\))|  left: Err\(Failed\))$", re.M)
 VALGRIND = ["valgrind", "-q", "--soname-synonyms=somalloc=nouserintercepts", "--error-exitcode=9"]
 VALGRIND += ["--leak-check=full", "--show-leak-kinds=all", "--errors-for-leak-kinds=all"]
 
-# A run, with what the malloc counted; None where the program was stopped.
+# A run, with the counts of the malloc; None if the program was stopped.
 Counted = namedtuple("Counted", "status out said growths refused left most")
 
 
 class Wrong(Exception):
-    """A run that was not as it is due."""
+    """A run had other results than expected."""
 
 
 def counted(ran):
-    """A run with what the malloc counted taken out of what it said."""
+    """Returns a run with the counts of the malloc, which are removed from its errors."""
     found = COUNTS.search(ran.err)
     return Counted(ran.status, ran.out, COUNTS.sub(b"", ran.err), *(map(int, found.groups()) if found else (None,) * 4))
 
 
 def spread(growths, most):
-    """At most so many of the growths, the first and the last among them."""
+    """Returns at most `most` of the growths, the first and the last among them."""
     if growths <= most:
         return range(1, growths + 1)
     return sorted({1 + (growths - 1) * at // max(most - 1, 1) for at in range(most)})
@@ -114,14 +113,14 @@ class Test:
         return counted(Run(ran.returncode, ran.stdout, ran.stderr))
 
     def passes(self, refused, **setting):
-        """It passes with so many refusals."""
+        """Checks that the test passes with this number of refusals."""
         found = self.run(**setting)
         if (found.status, found.refused) != (0, refused):
             raise Wrong(f"status {found.status}, {found.refused} refused, and {refused} was due: {found.said.decode(errors='replace')}")
         leaves_nothing(found)
 
     def refuses(self, growth):
-        """With one growth refused it passes, or says that memory was wanting."""
+        """Checks that the test passes with one growth refused, or says that it is out of memory."""
         found = self.run(REFUSE_AT=str(growth))
         told = found.out + found.said
         if found.status == -6 and ASSERTS.search(told) and not self.must_pass:
@@ -153,7 +152,7 @@ class Serving:
         return counted(run(self.program, self.dialogue.path, self.dialogue.words, folder, {**setting, "LD_PRELOAD": self.library}, **writer))
 
     def whole(self, folder):
-        """The run without a refusal."""
+        """Returns the run without a refusal."""
         found = self.run(folder, {})
         if (found.status, found.said, found.out) != (0, b"", self.dialogue.due):
             raise Wrong(f"not all is answered: {found}")
@@ -161,7 +160,7 @@ class Serving:
         return found
 
     def replies(self, found):
-        """How many reply lines stand ahead of the out-of-memory line; None before the program serves, or where it got by."""
+        """Returns how many reply lines are ahead of the out-of-memory line; None before the program serves, or if it served all."""
         leaves_nothing(found)
         if found.refused == 0:
             raise Wrong("the growth was not asked for")
@@ -175,7 +174,7 @@ class Serving:
         return front.count(b"\n") if found.out else None
 
     def refuses(self, folder, mode, growths):
-        """The runs with these growths refused; yields each growth, and its run."""
+        """Makes the runs with these growths refused, and yields each growth and its run."""
         lines = 0
         for growth in growths:
             found = self.run(folder, {mode: str(growth)})
@@ -189,7 +188,7 @@ class Serving:
             yield growth, found
 
     def fails_to_write(self, folder, mode, growth, whole):
-        """The run anew with writers that fail; how many runs that was."""
+        """Makes the run anew with writers that fail, and returns how many runs that was."""
         room = growth * 7919 % max(len(whole.out), 1)
         writers = [{"output": False}, {"output": "/dev/full"}, {"room": room}]
         for writer in writers:
@@ -201,7 +200,7 @@ class Serving:
         return len(writers)
 
     def under_valgrind(self, setting=()):
-        """The run under valgrind."""
+        """Makes the run under valgrind."""
         words = [*VALGRIND, self.program, *self.dialogue.words]
         refusing = {**dict(setting), "REFUSE_IN": os.path.basename(self.program), "LD_PRELOAD": self.library} if setting else {}
         ran = subprocess.run(words, input=self.dialogue.given, env={**os.environ, **refusing}, capture_output=True, timeout=LIMIT)
@@ -221,7 +220,7 @@ class Scene:
         return self.name
 
     def written(self, folder):
-        """The scene at each of its sizes."""
+        """Yields the scene at each of its sizes."""
         for at, size in enumerate(self.sizes):
             lines, replies = zip(*self.makes(*size))
             path = os.path.join(folder, f"{at}.in")
@@ -231,7 +230,7 @@ class Scene:
             yield Serving(Dialogue(self.name, path, given, [], due), self.program, self.library)
 
 
-# What is tried of one test or dialogue. Each yields after each run, and raises where that was not as it is due.
+# The runs of one test or dialogue, by part. Each function yields after each run, and raises Wrong if a run had other results than expected.
 
 
 def store(it, most):
@@ -286,7 +285,7 @@ def leaks(it, most):
 
 
 def room(it, most):
-    """A scene at its two sizes."""
+    """Makes the runs of a scene at its two sizes."""
     with tempfile.TemporaryDirectory() as folder:
         large, small = it.written(folder)
         found = large.whole(folder)
@@ -297,7 +296,7 @@ def room(it, most):
 
 
 def tried(work):
-    """Makes the runs of one test or dialogue: the part, how many runs there were, and what was wrong."""
+    """Makes the runs of one test or dialogue. Returns the part, how many runs there were, and the fault or None."""
     part, it, most = work
     runs = 0
     ways = {"store": store, "tests": tests, "leaks": leaks, "room": room}
@@ -310,14 +309,14 @@ def tried(work):
 
 
 def most_of(given, part):
-    """How many growths of a test or dialogue are refused."""
+    """Returns how many growths of a test or dialogue are refused."""
     if given.whole:
         return {"tests": WHOLE, "leaks": 20}.get(part, sys.maxsize)
     return given.most or PARTS[part]
 
 
 def works(given, library):
-    """What is to be tried: the part, the test or dialogue, and the most growths."""
+    """Yields the work: the part, the test or dialogue, and the most growths."""
     every = [it for crate in given.crate for it in tests_of(crate, library)] if {"store", "tests"} & {*given.parts} else []
     if "store" in given.parts:
         stands = [it for it in every if it.name.endswith(WITHOUT) or (it.crate, it.name) in STAND]
@@ -353,10 +352,10 @@ def words():
 
 
 def can_run(given):
-    """Leaves out what cannot be tried here, and says so; fails where something is not built."""
+    """Leaves out the parts that cannot be tried here, and says so. Fails if something is not built."""
     if "leaks" in given.parts and not shutil.which("valgrind"):
         given.parts.remove("leaks")
-        print("left out: what runs under valgrind, since there is no valgrind", flush=True)
+        print("left out: the runs under valgrind, since there is no valgrind", flush=True)
     built = [program_of(it) for it in given.crate] if {"store", "tests"} & {*given.parts} else []
     built += [given.program] if {"dialogues", "writers", "leaks", "room"} & {*given.parts} else []
     missing = [it for it in built if not os.access(it, os.X_OK)]

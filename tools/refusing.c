@@ -1,8 +1,10 @@
 /* A preloaded malloc that counts growths and blocks, and refuses growths.
- *   REFUSE_AT=N      the Nth growth is refused
- *   REFUSE_FROM=N    the Nth growth and each later one is refused
- *   REFUSE_AFTER=S   once room of exactly S bytes was handed out, every growth is refused
- *   REFUSE_IN=NAME   these hold in a program of that name only
+ *
+ * - REFUSE_AT=N: the Nth growth is refused
+ * - REFUSE_FROM=N: the Nth growth and each later one is refused
+ * - REFUSE_AFTER=S: once room of exactly S bytes was allocated, every growth is refused
+ * - REFUSE_IN=NAME: these hold in a program of that name only
+ *
  * At the end it writes "growths G, refused R, left B, most M" to standard error: B blocks are in use, and at most M bytes were at once. */
 #define _GNU_SOURCE
 #include <dlfcn.h>
@@ -24,14 +26,14 @@ static unsigned long number_of(const char *name)
     return text ? strtoul(text, NULL, 10) : 0;
 }
 
-/* Whether this is the program whose growths are refused. */
+/* Returns whether this is the program whose growths are refused. */
 static int is_meant(void)
 {
     const char *name = getenv("REFUSE_IN");
     return !name || strcmp(name, program_invocation_short_name) == 0;
 }
 
-/* Whether this growth is refused. */
+/* Returns whether this growth is refused. */
 static int is_refused(size_t size)
 {
     if (!is_read && is_meant()) {
@@ -50,7 +52,7 @@ static int is_refused(size_t size)
     return 0;
 }
 
-/* One block more is in use, where this is one. */
+/* Counts a block as in use, unless it is NULL. */
 static void *counted(void *block)
 {
     left += block != NULL;
@@ -59,7 +61,7 @@ static void *counted(void *block)
     return block;
 }
 
-/* One block less is in use, where this is one. */
+/* Counts a block as not in use, unless it is NULL. */
 static void uncounted(void *block)
 {
     left -= block != NULL;

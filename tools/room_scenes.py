@@ -1,6 +1,6 @@
-"""Scenes in which Texts and attributes lose most of what they had: lines, each with the reply that is due, for `tools/refused.py`.
+"""Scenes in which Texts and attributes lose most of their content: lines, each with the expected reply, for `tools/refused.py`.
 
-What they lost is given back: in each scene no more than `MOST` bytes are in use at once.
+The lost content is freed: in each scene at most `MOST` bytes are in use at once.
 """
 import json
 
@@ -8,13 +8,13 @@ MOST = 20 << 20
 
 
 def pair(due, *command):
-    """A command's line, and its reply."""
+    """Returns a command's line, and its reply."""
     line, reply = (json.dumps(it, separators=(",", ":")) for it in (command, {"ok": due}))
     return line, reply
 
 
 def split_from_the_front(lines):
-    """One Text of so many lines of 80 units is cut into these, front to back."""
+    """Cuts a Text of `lines` lines, each of 80 units, into its lines, front to back."""
     yield pair(1, "createElement", 0, "e")
     yield pair(2, "createText", 0, "a" * 80 * lines)
     yield pair(2, "appendChild", 1, 2)
@@ -25,7 +25,7 @@ def split_from_the_front(lines):
 
 
 def split_from_the_back(lines):
-    """The same, back to front."""
+    """Cuts a Text of `lines` lines, each of 80 units, into its lines, back to front."""
     yield pair(1, "createElement", 0, "e")
     yield pair(2, "createText", 0, "a" * 80 * lines)
     yield pair(2, "appendChild", 1, 2)
@@ -58,7 +58,7 @@ def deleted_by_a_range(node, units, _):
 
 
 def cut_to_a_unit(texts, units):
-    """So many Texts of so many units, each cut to one unit, in five ways in turn."""
+    """Cuts a number of Texts, each of `units` units, to one unit, in five ways in turn."""
     ways = [deleted, data_set, replaced, split_and_discarded, deleted_by_a_range]
     yield pair(1, "createText", 0, "a" * units)
     yield pair(0, "createRange", 0)
@@ -72,7 +72,7 @@ def cut_to_a_unit(texts, units):
 
 
 def halved_from_the_front(texts, units):
-    """So many Texts of so many units, each split ahead of its middle until one unit is left; the fronts are let go of."""
+    """Splits a number of Texts, each of `units` units, ahead of their middle until one unit is left, and discards the fronts."""
     yield pair(1, "createText", 0, "a" * units)
     number = 2
     for _ in range(texts):
@@ -87,7 +87,7 @@ def halved_from_the_front(texts, units):
 
 
 def taken_off_one_by_one(units):
-    """A Text loses its last unit, so often as it has units but one; then it is filled again."""
+    """Deletes the last unit of a Text again and again until one is left, and then fills it again."""
     yield pair(1, "createText", 0, "a" * units)
     for left in range(units - 1, 0, -1):
         yield pair(None, "deleteData", 1, left, 1)
@@ -97,7 +97,7 @@ def taken_off_one_by_one(units):
 
 
 def attributes_lost(names, copies):
-    """An element has so many attributes and loses all but the first two; then it is copied, gets two more, and is copied again."""
+    """Gives an element `names` attributes, and removes all but the first two. Then it is copied, gets two more, and is copied again."""
     yield pair(1, "createElement", 0, "e")
     for at in range(names):
         yield pair(None, "setAttribute", 1, f"a{at}", f"{at}")
@@ -114,7 +114,7 @@ def attributes_lost(names, copies):
     yield pair("1", "getAttribute", 1 + 2 * copies, "a1")
 
 
-# The name of each, what makes it, its size where memory is counted, and its size where each growth is refused.
+# The name of each, the function that makes it, its size for counting memory, and its size for refusing each growth.
 SCENES = (
     ("a Text split from the front", split_from_the_front, (5000,), (12,)),
     ("a Text split from the back", split_from_the_back, (5000,), (12,)),

@@ -1,17 +1,20 @@
 #!/usr/bin/env python3
 """Writes the dialogues of dialogues as theorems and as tests.
 
-dialogues has a folder for each subject, with NAME.in, NAME.out and, where the session has options, NAME.opts (one line, as
-`--numbers 4`). Where NAME.erased stands beside them, one more file has the dialogue with an observer erased, or with all watchers erased
-(tools/erased.py).
+dialogues has a folder for each subject, with NAME.in, NAME.out and, if the session has options, NAME.opts (one line, as `--numbers 4`).
+If there is a NAME.erased beside them, one more file has the dialogue with an observer erased, or with all watchers erased (tools/erased.py).
 
-Theorems: for each NAME a file Subject/Name.antt in crates/dom_model/proofs/Dialogues, and its line in Subject.antt, which must stand
-there and be named in the file beside that folder. The bytes that a session reads give the bytes that it writes, and the edits of the
-token text that its commands make leave the ends, texts, worlds and contents that the commands leave. They hold by computation.
+Theorems: for each NAME a file Subject/Name.antt in crates/dom_model/proofs/Dialogues, and its line in Subject.antt, which must exist and
+be named in the file beside that folder. The bytes that a session reads give the bytes that it writes, and the edits of the token text
+that its commands make leave the ends, texts, worlds and contents that the commands leave. They hold by computation.
 
-Tests: for each subject a file in crates/dialogues/src, with its dialogues, each text on a line; and one in crates/dialogue_cases/src with
-a test of each that serves it whole, in pieces, with refused growths, with each read, write and flush failing in turn, and cut in two at
-each of its bytes.
+Tests: for each subject a file in crates/dialogues/src, with its dialogues, each text on a line; and a file in crates/dialogue_cases/src
+with a test of each dialogue. A test serves its dialogue in these ways:
+
+- whole, and in pieces
+- with refused growths
+- with each read, write and flush failing in turn
+- cut in two at each of its bytes
 """
 import argparse
 import io
@@ -29,7 +32,7 @@ DIALOGUES = os.path.join(ROOT, "dialogues")
 THEOREMS = "crates/dom_model/proofs/Dialogues"
 TABLES = "crates/dialogues/src"
 TESTS = "crates/dialogue_cases/src"
-# All that is written, and what that is written from beside the dialogues.
+# The files that are written, and those that are read beside the dialogues.
 WRITTEN = (THEOREMS, f"{THEOREMS}.antt", erased.THEOREMS, TABLES, TESTS)
 READ = ("crates.txt", erased.COMMANDS, erased.WATCHING)
 
@@ -37,7 +40,7 @@ DEFAULTS = {"numbers": "4294967295", "line": "1048576"}
 
 
 def literal(run):
-    """The ASCII bytes of a run as a quoted text."""
+    """Returns the ASCII bytes of a run as a quoted text."""
     text = run.decode("ascii")
     return 'codes "' + text.replace("\\", "\\\\").replace('"', '\\"').replace("\n", "\\n") + '"'
 
@@ -47,7 +50,7 @@ def is_plain(byte):
 
 
 def pieces(line):
-    """The runs of a line: texts, and lists of the bytes that no plain text holds."""
+    """Yields the runs of a line: texts, and lists of the bytes that no plain text holds."""
     runs = []
     for byte in line:
         if runs and is_plain(runs[-1][-1]) == is_plain(byte):
@@ -62,17 +65,17 @@ def pieces(line):
 
 
 def told(line):
-    """The bytes of a line as a sum of quoted runs."""
+    """Returns the bytes of a line as a sum of quoted runs."""
     return " ++ ".join(pieces(line))
 
 
 def exchanges(given, wanted):
-    """Each line that is given with the line that is due, in a list."""
+    """Returns a list of the given lines, each with the expected one."""
     return layout.listing((told(line), told(reply)) for line, reply in zip(io.BytesIO(given), io.BytesIO(wanted), strict=True))
 
 
 def used(text, usual):
-    """The line that brings in what the text of a theorem names."""
+    """Returns the line that imports the names in the text of a theorem."""
     words = [word for word, mark in (("codes", "codes "), ("[]", "[]"), ("◌∷◌", " ∷ "), ("◌++◌", " ++ ")) if mark in text]
     own = "usual_bounds" if usual else "Bounds"
     words = ["◌≡◌", "refl", "List", *words, own, "whole_table", "output_of", "Exchange", "bytes_given", "bytes_due", "MissesNothing", "computing"]
@@ -89,7 +92,7 @@ def options(path):
 
 
 def dialogue(folder, name):
-    """The bytes that are given, the bytes that are due, and the options."""
+    """Returns the given bytes, the expected bytes, and the options."""
     path = os.path.join(folder, name)
     with open(path + ".in", "rb") as given, open(path + ".out", "rb") as due:
         return given.read(), due.read(), options(path + ".opts")
@@ -113,7 +116,7 @@ def module_of(name):
 
 
 def erased_in(folder, dialogues):
-    """The dialogues of a folder of which something is erased: the name, what is erased, the bytes that are given and those that are due."""
+    """Yields the dialogues of a folder that have erased watchers: the name, those watchers, the given bytes and the expected ones."""
     for name, (given, due, _) in dialogues.items():
         path = os.path.join(folder, name) + ".erased"
         if os.path.exists(path):
@@ -121,7 +124,7 @@ def erased_in(folder, dialogues):
 
 
 def write_theorems(root, subject, dialogues):
-    """The theorems of one subject's dialogues, and their lines in the file beside their folder."""
+    """Writes the theorems of one subject's dialogues, and their lines in the file beside their folder."""
     proofs = os.path.join(root, THEOREMS, module_of(subject))
     library = proofs + ".antt"
     lines = open(library).read().splitlines()
@@ -137,19 +140,19 @@ def write_theorems(root, subject, dialogues):
 
 
 def text_literal(text):
-    """The text as a literal on one line."""
+    """Returns the text as a literal on one line."""
     marks = {"\n": "\\n", '"': '\\"', "\\": "\\\\"}
     return '"' + "".join(marks.get(mark) or (mark if mark.isprintable() else f"\\u{{{ord(mark):x}}}") for mark in text) + '"'
 
 
 def bytes_literal(data):
-    """The bytes as a byte string."""
+    """Returns the bytes as a byte string."""
     marks = {10: "\\n", 34: '\\"', 92: "\\\\"}
     return 'b"' + "".join(marks.get(byte) or (chr(byte) if is_plain(byte) else f"\\x{byte:02X}") for byte in data) + '"'
 
 
 def bytes_of(data):
-    """The bytes as a text where they are one, since a byte string costs the check an expression a byte."""
+    """Returns the bytes as a text if they are one, since a byte string costs the check an expression a byte."""
     try:
         return f"Bytes::Text({text_literal(data.decode())})"
     except UnicodeDecodeError:
@@ -157,7 +160,7 @@ def bytes_of(data):
 
 
 def row(name, given, wanted, bounds):
-    """A dialogue in its table."""
+    """Returns a dialogue in its table."""
     return (
         f"\npub const {name.upper()}: Dialogue = Dialogue {{\n"
         + f'    name: "{name.replace("_", " ")}",\n    numbers: {bounds["numbers"]},\n    line: {bounds["line"]},\n'
@@ -166,7 +169,7 @@ def row(name, given, wanted, bounds):
 
 
 def cut_test(name):
-    """The test that a dialogue is answered as is due however it comes. (All of a subject in one table cost the prover more steps than it may take.)"""
+    """Returns the test of a dialogue's replies, however its bytes are cut. (All of a subject in one table cost the prover more steps than it may take.)"""
     return (
         f"\n#[test]\nfn {name}_cut_in_two(rt: HostRuntime) {{\n"
         + f"    is_answered_in_two(&rt, rt.alloc(), &{name.upper()});\n}}\n"
@@ -174,7 +177,7 @@ def cut_test(name):
 
 
 def write_tests(root, subject, dialogues):
-    """The table of one subject's dialogues, and their tests."""
+    """Writes the table of one subject's dialogues, and their tests."""
     head = f"//! Written by tools/rows.py from dialogues/{subject}.\n\n"
     with open(os.path.join(root, TABLES, subject + ".rt"), "w") as out:
         out.write(head + "use crate::{Bytes, Dialogue};\n")
@@ -227,14 +230,14 @@ def stale():
 
 def main():
     words = argparse.ArgumentParser(description=__doc__, formatter_class=argparse.RawDescriptionHelpFormatter)
-    words.add_argument("--check", action="store_true", help="write nothing, and tell which files are not what the dialogues give now")
+    words.add_argument("--check", action="store_true", help="write nothing, and list the files that are not what the dialogues give now")
     if not words.parse_args().check:
         write(ROOT)
         return 0
     found = [*stale()]
     for it in found:
         print(f"{it} is not what the dialogues give: python3 tools/rows.py writes it")
-    print("what is written from the dialogues is as it should be" if not found else f"{len(found)} files are stale")
+    print("the files written from the dialogues are up to date" if not found else f"{len(found)} files are stale")
     return 1 if found else 0
 
 

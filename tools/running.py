@@ -22,12 +22,12 @@ OUT_OF_MEMORY = b'{"error":"out-of-memory"}\n'
 # An input's file and bytes, the program's words, and the bytes that are due.
 Dialogue = namedtuple("Dialogue", "name path given words due")
 
-# How a run ended, and what it wrote.
+# A run's status, and its output and errors.
 Run = namedtuple("Run", "status out err")
 
 
 def words_of(description, add=lambda parser: None):
-    """The words that a script was given: those that every script takes, and those that `add` adds."""
+    """Returns the words that a script was given: those that every script takes, and those that `add` adds."""
     parser = argparse.ArgumentParser(description=description, formatter_class=argparse.RawDescriptionHelpFormatter)
     parser.add_argument("--program", default=PROGRAM, help="the program that is run (crates/domserve/out/domserve)")
     add(parser)
@@ -53,7 +53,7 @@ def dialogue(path):
 
 
 def dialogues(folders):
-    """The dialogues below the folders, or those of the repository where none is given."""
+    """Returns the dialogues below the folders, or those of the repository if none is given."""
     found = []
     for top in folders or [DIALOGUES]:
         for folder, _, names in sorted(os.walk(top)):
@@ -72,13 +72,13 @@ def refusing_malloc(folder):
 
 
 def read_all(pipe):
-    """What comes out of a pipe until it ends."""
+    """Returns all bytes of a pipe up to its end."""
     with os.fdopen(pipe, "rb") as file:
         return file.read()
 
 
 def wait_for(process, pipe):
-    """The status of a process and what it says on a pipe. It is ended where it takes too long."""
+    """Returns the status of a process and its output on a pipe. A process that takes too long is ended."""
     signal.signal(signal.SIGALRM, lambda *_: os.kill(process, signal.SIGKILL))
     signal.alarm(LIMIT)
     said = read_all(pipe)
@@ -88,7 +88,7 @@ def wait_for(process, pipe):
 
 
 def run(program, given, words, folder, environment=None, output=None, room=None):
-    """One run over a file. `output` is another file to write to, or False for none; `room` is how many bytes a file can hold."""
+    """Runs the program over a file. `output` is another file to write to, or False for none; `room` is how many bytes a file can hold."""
     out = os.path.join(folder, "out")
     reading, writing = os.pipe()
     writes = os.O_WRONLY | os.O_CREAT | os.O_TRUNC
@@ -101,7 +101,7 @@ def run(program, given, words, folder, environment=None, output=None, room=None)
         files.append((os.POSIX_SPAWN_CLOSE, 1))
     before = resource.getrlimit(resource.RLIMIT_FSIZE)
     if room is not None:
-        # A write past the room fails; Python ignores the signal for that, and so does what it starts.
+        # A write past the room fails; Python ignores the signal for that, and so do the processes that it starts.
         resource.setrlimit(resource.RLIMIT_FSIZE, (room, before[1]))
     process = os.posix_spawn(program, [program, *words], {**os.environ, **(environment or {})}, file_actions=files)
     resource.setrlimit(resource.RLIMIT_FSIZE, before)

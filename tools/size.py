@@ -1,10 +1,14 @@
 #!/usr/bin/env python3
-"""Runs the built program on large inputs with a stack of 1 MiB, checks each reply by rule, and tells how long each part took.
+"""Runs the built program on large inputs with a stack of 1 MiB, checks each reply by rule, and prints how long each part took.
 
-COUNT is how many elements the chain has, how many children the parent and how many live ranges there are: 100,000 where it is not given. Commands
-whose memory is measured are some ten times as many. The parts: a chain of elements that is made, printed, walked, copied, compared, normalized,
-discarded, and dropped at the end of the input; a parent with many children; many live ranges; memory while nodes, ranges and records come and go,
-which stays level; a line of 1 GiB in a small memory.
+COUNT is how many elements the chain has, how many children the parent has, and how many live ranges there are: 100,000 by default. Commands whose memory
+is measured are some ten times as many. The parts:
+
+- a chain of elements that is made, printed, walked, copied, compared, normalized, discarded, and freed at the end of the input
+- a parent with many children
+- many live ranges
+- memory while nodes, ranges and records are made and freed, which stays level
+- a line of 1 GiB in a small memory
 """
 import json
 import resource
@@ -15,11 +19,11 @@ import time
 from running import words_of
 
 STACK = 1 << 20
-# A pipe holds so many bytes, so that writing them never waits for the program.
+# The bytes that are written at once. A pipe holds them, so that writing never waits for the program.
 BATCH = 60_000
-# How many bytes the program may grow by while as much is made as is discarded, however often.
+# The bytes that the program may grow by over any number of rounds that discard as much as they make.
 LEVEL = 1 << 18
-# The address space that a line without an end is served in, and its bytes.
+# The address space in which a line without an end is served, and the line's bytes.
 SPACE, LONG = 64 << 20, 1 << 30
 UNITS = 1000
 EMPTY = [[0, 0, 9, "#document"]]
@@ -34,7 +38,7 @@ def error(name):
 
 
 def pair(due, *command):
-    """A command's line, and the reply that is due."""
+    """Returns a command's line, and the expected reply."""
     return json.dumps(command, separators=(",", ":")), ok(due) if not isinstance(due, str) or not due.startswith("{") else due
 
 
@@ -62,7 +66,7 @@ class Session:
             Session.seen += 1
 
     def ask(self, step, pairs):
-        """Sends all lines of a step, and tells how long it took."""
+        """Sends all lines of a step, and prints how long it took."""
         start, count, batch, size = time.time(), 0, [], 0
         for line, due in pairs:
             if size + len(line) >= BATCH and batch:
@@ -75,12 +79,12 @@ class Session:
         print(f"{self.name}, {step}: {count:,} commands in {taken:.2f} s, {taken / count * 1e6:.1f} us each", flush=True)
 
     def memory(self, field="VmRSS"):
-        """Bytes of memory that the program has."""
+        """Returns the bytes of memory that the program has."""
         with open(f"/proc/{self.process.pid}/status", encoding="ascii") as file:
             return next(int(line.split()[1]) << 10 for line in file if line.startswith(field))
 
     def end(self):
-        """Ends the input; what stands is dropped, and the status is 0."""
+        """Ends the input. The program frees its world, and its status has to be 0."""
         start = time.time()
         self.process.stdin.close()
         rest, status = self.process.stdout.read(), self.process.wait()
@@ -97,7 +101,7 @@ def chain_made(count):
 
 
 def there_and_back(count, first, ahead, back):
-    """A walk from the first element to the last, and back."""
+    """Walks from the first element to the last, and back."""
     for number in [*range(first, count + 1), None]:
         yield pair(number, *ahead)
     for number in [*range(count - 1, 0, -1), None]:
@@ -134,7 +138,7 @@ def chain_compared(count):
 
 
 def chain_ended(count):
-    """Texts in the copy are joined, the copy is discarded, and the chain taken apart."""
+    """Joins Texts in the copy, discards the copy, and takes the chain apart."""
     copy, last, text = count + 1, 2 * count, 2 * count + 1
     for number, data in ((text, "t"), (text + 1, "")):
         yield pair(number, "createText", 0, data)
@@ -180,7 +184,7 @@ def children_made(count):
 
 
 def children_moved(count):
-    """The last child is put first, a thousand times, beside a live range behind the children; then these go, and in the end all."""
+    """Moves the last child to the front a thousand times, beside a live range behind the children. Then removes these, and in the end all."""
     yield pair(0, "createRange", 0)
     yield pair(None, "setStart", 0, 1, count)
     for step in range(1000):
@@ -213,7 +217,7 @@ def ranges_made(count):
 
 
 def ranges_moved(count):
-    """Two units at the front move each end that is not there; then the Text is split, and goes out of an element, with all ends; then they go."""
+    """Inserts two units at the front, which move each end that is not there. Then splits the Text, removes it from an element, and releases the ranges."""
     yield pair(None, "insertData", 1, 0, "bb")
     yield pair(2, "createElement", 0, "e")
     yield pair(1, "appendChild", 2, 1)
@@ -238,7 +242,7 @@ def ranges(count):
 
 
 def round_of_nodes(at):
-    """A tree of nodes that comes and goes; their numbers go on."""
+    """Makes and discards a tree of nodes; their numbers grow."""
     one = 3 * at + 1
     yield pair(one, "createElement", 0, "e")
     yield pair(one + 1, "createText", 0, "some text")
@@ -257,7 +261,7 @@ def round_of_ranges(at):
 
 
 def round_of_copies(at):
-    """A copy of the element that stands, and a change of it that an observer is told of."""
+    """Makes and discards a copy of the element, and changes the element's Text, for which an observer gets a record."""
     yield pair(2 * at + 3, "cloneNode", 1, True)
     yield pair(None, "discard", 2 * at + 3)
     yield pair(None, "setData", 2, f"text {at}")
@@ -274,7 +278,7 @@ OBSERVED = [
 
 
 def stays_level(name, start, part, rounds):
-    """Memory while a round is run again and again: what it grows by after a tenth of the rounds."""
+    """Runs a round again and again, and checks that memory hardly grows after a tenth of the rounds."""
     session, levels = Session(name), []
     session.ask("begun", [pair(EMPTY, "tree", 0), *start])
     for tenth in range(10):
@@ -288,7 +292,7 @@ def stays_level(name, start, part, rounds):
 
 
 def line_without_end():
-    """A line of 1 GiB, in a memory that holds a small part of it."""
+    """Sends a line of 1 GiB, in a memory that holds a small part of it."""
     session = Session("line of 1 GiB", SPACE)
     session.ask("begun", [pair(EMPTY, "tree", 0)])
     before = session.memory("VmHWM")

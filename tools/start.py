@@ -1,13 +1,13 @@
 #!/usr/bin/env python3
-"""Proves and builds what is missing of `domserve`, or of other crates, and tells on standard error how far it is.
+"""Proves and builds the missing parts of `domserve`, or of other crates, and shows its progress on standard error.
 
-Each crate is proved as `rt ci` proves it: from nothing, over the statements of the crates below it; those that do not stand on each other side by side,
-as far as there are processors and memory. What is proved is kept in the kit's own store on this machine, by the sums of all that was read, for later
-starts, for the gate, and for other copies of the repository; so a start that was cut off goes on where it stopped. The program, or an archive, then
-stands in crates/NAME/out, beside the sum of what it was built of. The work goes on in a copy, so files may change meanwhile.
+Each crate is proved as `rt ci` proves it: from nothing, over the statements of the crates below it. Crates that do not depend on each other are proved side
+by side, as far as there are processors and memory. Proofs are kept in the kit's own store on this machine, by the sums of all files that were read. Later
+starts, the gate, and other copies of the repository find them there, so a start that was cut off continues. The program, or an archive, is then in
+crates/NAME/out, beside the sum of its sources. The work is done in a copy, so files may change meanwhile.
 
-A kit that has no store leaves what it proved under crates/NAME/out: there a start works in place, and takes what the gate or an earlier start left
-of the files that are there.
+A kit that has no store leaves proved crates under crates/NAME/out. There a start works in place, and takes the results of the gate or of an earlier start
+for the same files.
 """
 import argparse
 import concurrent.futures
@@ -30,15 +30,15 @@ from progress import Figures, Progress
 
 ROOT = os.path.dirname(os.path.dirname(os.path.realpath(__file__)))
 PROGRAM = "domserve"
-# What `rt` calls the task that proves a crate.
+# The name in `rt` of the task that proves a crate.
 PROOF = "proof"
-# How many seconds any proof takes, and how many lines a second, where no earlier one of the crate was timed; and what is too short to be one.
+# The seconds of any proof, and the lines a second, if no earlier proof of the crate was timed; and the least seconds of a proof that is timed.
 LEAST, RATE, KEPT = 20, 7, 5
-# How far what nothing waits for stands back from the rest, as `nice` has it.
+# The niceness of tasks for which nothing waits.
 BEHIND = 10
-# What a program and a static library are compiled for: this machine, and the other processor of a release.
+# The targets of a program and a static library: this machine, and the other processor of a release.
 HERE, ARM = "x86_64-unknown-linux-gnu", "aarch64-unknown-linux-gnu"
-# A clang that keeps the code that it is handed, as text or not, and the words that it was called with, a line each.
+# A clang that keeps the code that it is given, as text or not, and the words that it was called with, a line each.
 KEEPER = """\
 #!/bin/sh
 for it in "$@"; do
@@ -80,7 +80,7 @@ def listed():
 
 
 def with_lower(rows, name):
-    """Returns a crate and those below it, each after those that it stands on."""
+    """Returns a crate and those below it, each after the crates that it depends on."""
     found = []
     for dep in rows[name]:
         found += [it for it in with_lower(rows, dep) if it not in found]
@@ -99,18 +99,18 @@ def sum_of(names):
 
 
 def built(name):
-    """Returns the file that a program or a static library is built into, and the file beside it that tells of what."""
+    """Returns the file that a program or a static library is built into, and the file beside it that has the sum of its sources."""
     file = f"{ROOT}/crates/{name}/out/{name}"
     return file, f"{file}.sum"
 
 
 def code_of(name, target=HERE):
-    """Returns the file of the LLVM code of a program or a static library, which stands beside it; NAME.words has the words that clang was called with."""
+    """Returns the file of the LLVM code of a program or a static library, which is beside it. NAME.words has the words that clang was called with."""
     return f"{built(name)[0]}{'' if target == HERE else '.' + target.partition('-')[0]}.bc"
 
 
 def target_of(crate):
-    """Returns what a crate is proved and compiled for."""
+    """Returns the target that a crate is proved and compiled for."""
     return getattr(crate, "target", HERE)
 
 
@@ -122,12 +122,12 @@ def for_target(crate, target):
 
 
 def told(crate):
-    """Returns how a crate is named to whoever waits."""
+    """Returns the name of a crate in messages."""
     return crate.name if target_of(crate) == HERE else f"{crate.name} for {target_of(crate).partition('-')[0]}"
 
 
 def toolchain(kit, to, kept):
-    """Makes a folder like the kit's toolchain, whose clang leaves the code that it is handed in a file."""
+    """Makes a folder like the kit's toolchain, whose clang leaves the code that it is given in a file."""
     theirs = f"{kit}/toolchain"
     os.makedirs(f"{to}/bin")
     os.symlink(f"{theirs}/lib", f"{to}/lib")
@@ -141,12 +141,12 @@ def toolchain(kit, to, kept):
 
 
 def noted_of(name, target=HERE):
-    """Returns the file that has the sum of what was proved, for a target."""
+    """Returns the file that has the sum of the proved sources, for a target."""
     return built(name)[1] if target == HERE else f"{code_of(name, target)}.sum"
 
 
 def is_fresh(name, target=HERE, has_code=False):
-    """Returns whether a crate is built of the files that are there; with its code, where that is asked for."""
+    """Returns whether a crate is built of the files that are there; with its code, if that is asked for."""
     code, noted = code_of(name, target), noted_of(name, target)
     files = [*([built(name)[0]] if target == HERE else []), *([code, f"{code}.words"] if has_code or target != HERE else []), noted]
     if not all(map(os.path.isfile, files)):
@@ -156,12 +156,12 @@ def is_fresh(name, target=HERE, has_code=False):
 
 
 def written(path):
-    """Returns when a file or a folder was last written; nothing is as old as what is not there."""
+    """Returns when a file or a folder was last written; a missing one is older than all others."""
     return os.path.getmtime(path) if os.path.exists(path) else 0
 
 
 class Left:
-    """What a kit without a store left of crates under their out/: good where it is newer than all that it was made of."""
+    """The results that a kit without a store left of crates under their out/. They are good if they are newer than all their sources."""
 
     def __init__(self):
         self.at = {}
@@ -176,7 +176,7 @@ class Left:
         yield
 
     def made(self, crate):
-        """Returns what proving a crate leaves: a library that has no stamp, since those with one are built by other commands, or the program."""
+        """Returns the file that a proof of a crate leaves: the program, or a library that has no stamp. Those with one are built by other commands."""
         if crate.is_program or crate.is_static:
             return f"{crate.folder}/out/{crate.name}"
         return crate.rlib if not os.path.exists(f"{os.path.dirname(crate.rlib)}/stamp") else ""
@@ -192,11 +192,11 @@ class Left:
         self.keep(crate, False, None)
 
     def shrink(self):
-        """Drops nothing: what is left lies in the repository's own folders."""
+        """Drops nothing: these results are in the repository's own folders."""
 
 
 def files_of(rt, crate):
-    """Returns the files of its out/ that a program or a static library is kept by: what is linked here, and its code with clang's words."""
+    """Returns the files of out/ that the store keeps for a program or a static library: those linked here, and its code with clang's words."""
     if crate.is_wasm:
         return [crate.name]
     linked = [crate.name] if crate.is_static else [crate.name + it for it in rt.BACKENDS.values()]
@@ -205,7 +205,7 @@ def files_of(rt, crate):
 
 
 def store(rt, crates):
-    """Returns the kit's store, which here keeps the code of a program and of a static library as well, and of the latter its archive, as out/NAME."""
+    """Returns the kit's store. Here it also keeps the code of a program and of a static library, and the library's archive as out/NAME."""
     if not hasattr(rt, "Kept"):
         return Left()
 
@@ -225,7 +225,7 @@ def store(rt, crates):
         def keep(self, crate, tests, key):
             super().keep(crate, tests, key)
             if not crate.makes_rlib() and target_of(crate) == HERE:
-                # (the gate's own entry: of a static library it has no file, and says that the crate was proved)
+                # (the gate's own entry: for a static library it has no file, and shows that the crate was proved)
                 self.verdicts.keep(crate, tests, self.verdicts.key(crate))
 
         def is_built(self, crate):
@@ -238,7 +238,7 @@ def store(rt, crates):
 
 
 class Start:
-    """One start, over a copy of the crates: what is to be proved, and how far it is. Programs and static libraries are proved for further targets as well."""
+    """One start, over a copy of the crates: the crates to prove, and the progress. Programs and static libraries are proved for further targets as well."""
 
     further = ()
 
@@ -262,7 +262,7 @@ class Start:
         return len(self.names) + len(self.further) * sum(not it.makes_rlib() for it in self.crates.values())
 
     def build(self, crate, jobs):
-        """Proves a crate from nothing, and returns whether it is proved; a static library's archive is then out/NAME."""
+        """Proves a crate from nothing, and returns whether it is proved. A static library's archive is then out/NAME."""
         flags = ["--jobs", str(jobs)]
         return not (self.build_top(crate, flags) if not crate.makes_rlib() and hasattr(self.rt, "Kept") else self.build_other(crate, flags))
 
@@ -275,8 +275,8 @@ class Start:
         return status
 
     def build_top(self, crate, flags):
-        """Proves a program or a static library as the gate does, and builds it of what that check proved, so that neither proves it a second time; the code that
-        clang is handed is kept."""
+        """Proves a program or a static library as the gate does, and builds it of that check's result, so that neither proves it a second time. The code that
+        clang is given is kept."""
         flags += ["--target", target_of(crate)] if target_of(crate) != HERE else []
         words = crate.words(flags, keeps=False)
         with tempfile.TemporaryDirectory(prefix=f"rt-proved-{os.getpid()}-") as room:
@@ -289,7 +289,7 @@ class Start:
             return status or self.compile(crate, words, made, f"{room}/object")
 
     def compile(self, crate, words, made, to):
-        """Compiles what was proved: for this machine what is linked here, for another target an object that is thrown away."""
+        """Compiles a proved crate: for this machine to the linked file, for another target to an object that is thrown away."""
         if crate.is_program and target_of(crate) == HERE:
             # (Rattle's own compiler has no part in the code that is kept)
             by_llvm = crate.compile_by("llvm", [*words, "--toolchain", made], f"out/{crate.name}")
@@ -298,7 +298,7 @@ class Start:
         return crate.call(self.rt.rtlib.RATTLE, "build", *words, "--toolchain", made, "--backend", "llvm", "-o", to)
 
     def take_or_build(self, crate, jobs):
-        """Takes a crate from the store, or proves it and keeps it there; returns whether it is proved, and whether it was kept already."""
+        """Takes a crate from the store, or proves it and keeps it there. Returns whether it is proved, and whether it was kept already."""
         key = self.kept.key(crate)
         with self.kept.in_turn(crate, False, key):
             was_kept = self.kept.give(crate, False, key)
@@ -321,8 +321,8 @@ class Start:
         return self.sizes[crate.name]
 
     def threads(self, crate, jobs):
-        """Returns how many threads a proof gets: as many as the kit reckons, or the share of the processors that its text has among those that are ready, where
-        memory holds that."""
+        """Returns how many threads a proof gets: as many as the kit reckons, or, if memory suffices, the share of the processors that its text has among the
+        crates that are ready."""
         # (each thread is a copy that reads anew what the others have read: four take up to two thirds more processor time than one)
         ready = sum(self.size(it) for it in self.crates.values() if self.is_ready(it))
         share = -(-self.rt.processors() * self.size(crate) // max(1, ready))
@@ -331,7 +331,7 @@ class Start:
         return max(jobs, min(share, most))
 
     def prove(self, crate, given, jobs):
-        """Proves and builds one crate where all below it are, and returns whether it is."""
+        """Proves and builds one crate if all below it are proved, and returns whether it is."""
         if not all(given[it.name, PROOF] for it in crate.below()):
             return False
         crate, jobs = copy.copy(crate), self.threads(crate, jobs)
@@ -353,7 +353,7 @@ class Start:
         self.say(f"{crate.name} was not proved: rt check in crates/{crate.name} says more")
 
     def tasks(self):
-        """Returns what there is to do: each crate is proved once those below it are."""
+        """Returns the tasks: each crate is proved once those below it are."""
         tasks = {}
         for crate in self.crates.values():
             tasks[crate.name, PROOF] = self.task(crate)
@@ -367,7 +367,7 @@ class Start:
         return ([(it.name, PROOF) for it in crate.below()], crate.count(rb"\n"), self.rt.need(crate), call)
 
     def timed(self, key, task, figures):
-        """Returns a task that says when it begins and ends, and whose time is kept beside the kit's store."""
+        """Returns a task that reports when it begins and ends. Its time is kept beside the kit's store."""
         waits, lines, memory, call = task
         name = " ".join(key)
 
@@ -383,7 +383,7 @@ class Start:
         return waits, lines, memory, work
 
     def run(self):
-        """Does what there is to do, as the kit orders it, and returns whether all of it went well; meanwhile it tells how far it is."""
+        """Does the tasks, in the kit's order, and returns whether all succeeded. Meanwhile it shows its progress."""
         tasks, figures = self.tasks(), Figures(f"{getattr(self.rt, 'STORE', ROOT + '/out')}/seconds.json")
         seconds = {" ".join(key): figures.of.get(" ".join(key), LEAST + self.crates[key[0]].count(rb"\n") / RATE) for key in tasks}
         self.progress = Progress(PROGRAM, seconds, self.rt.processors())
@@ -394,25 +394,25 @@ class Start:
 
 
 def behind(call, *given):
-    """Returns what a call gives that all it starts yields the processors for: what nothing waits for."""
+    """Returns a call's result. All that the call starts runs at a lower priority, since nothing waits for it."""
 
     def yields():
         with contextlib.suppress(OSError):
             os.setpriority(os.PRIO_PROCESS, threading.get_native_id(), BEHIND)
 
-    # (a thread of its own: without rights none comes back to where it was)
+    # (a thread of its own: without rights no thread can get its priority back)
     with concurrent.futures.ThreadPoolExecutor(1, initializer=yields) as pool:
         return pool.submit(call, *given).result()
 
 
 def end(number, _):
-    """Ends this start with all that it has begun."""
+    """Ends this start with all processes that it has begun."""
     signal.signal(number, signal.SIG_DFL)
     os.killpg(os.getpgrp(), number)
 
 
 def bring(top, name, target=HERE):
-    """Copies what was built, and its code, into the crate's own out/, with the sum of what it was built of, which comes last and never stands beside another."""
+    """Copies the built files and their code into the crate's own out/, with the sum of their sources, which is written last and is never beside other files."""
     noted, code = noted_of(name, target), code_of(name, target)
     files = [*([built(name)[0]] if target == HERE else []), code, f"{code}.words"]
     made = {to: f"{top}/crates/{name}/out/{os.path.basename(to)}" for to in files}
@@ -432,7 +432,7 @@ def bring(top, name, target=HERE):
 
 @contextlib.contextmanager
 def workplace(rt):
-    """Lends the folder that a start works in: a copy of the crates, or the repository itself under a kit that has no store."""
+    """Yields the folder that a start works in: a copy of the crates, or the repository itself if the kit has no store."""
     if not hasattr(rt, "Kept"):
         yield ROOT
         return
@@ -444,7 +444,7 @@ def workplace(rt):
 
 
 def start(names, further=(), has_code=False):
-    """Proves these crates and those below them, and builds them; also for further targets, and with their code, where that is asked for. Returns whether all are
+    """Proves these crates and those below them, and builds them; also for further targets, and with their code, if that is asked for. Returns whether all are
     proved."""
     missing = [it for it in names if not is_fresh(it, HERE, has_code) or not all(is_fresh(it, target) for target in further)]
     if not missing:
@@ -455,7 +455,7 @@ def start(names, further=(), has_code=False):
         wanted = {it for name in missing for it in with_lower(rows, name)}
         run = Start(rt, top, wanted)
         run.further = further
-        run.say(f"proving {', '.join(missing)} and what stands below, {len(wanted)} crates, once")
+        run.say(f"proving {', '.join(missing)} and the crates below, {len(wanted)} in all, once")
         is_proved = run.run()
         if is_proved and sum_of(rows) == before:
             for name in missing:
@@ -467,7 +467,7 @@ def start(names, further=(), has_code=False):
 
 def main():
     words = argparse.ArgumentParser(description=__doc__, formatter_class=argparse.RawDescriptionHelpFormatter)
-    words.add_argument("crates", nargs="*", metavar="CRATE", help="prove these crates and what stands below them, in place of the program")
+    words.add_argument("crates", nargs="*", metavar="CRATE", help="prove these crates and those below them, in place of the program")
     names = words.parse_args().crates or [PROGRAM]
     for it in names:
         if it not in listed():

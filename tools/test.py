@@ -47,7 +47,7 @@ def script(name):
 
 
 class Setup(unittest.TestCase):
-    """What the script says and calls, with these tools on the path and no other."""
+    """The output and the calls of the script, with these tools on the path and no other."""
 
     def run_with(self, tools, status=0, **variables):
         with tempfile.TemporaryDirectory() as folder:
@@ -106,7 +106,7 @@ class Gathered(unittest.TestCase):
 
     def test_list_stands_ahead_of_the_last_line(self):
         status, lines = self.said("echo 'left out: a, since there is no b'; echo 'left out: c, since there is no b'; echo '3 passed, 0 failed'; exit 3")
-        due = ["left out, by what was missing:", "  there is no b: a; c", "3 passed, 0 failed", ""]
+        due = ["left out, by the reason:", "  there is no b: a; c", "3 passed, 0 failed", ""]
         self.assertEqual((status, lines[2:]), (3, due))
 
     def test_nothing(self):
@@ -137,7 +137,7 @@ class Beside(unittest.TestCase):
             self.assertEqual(same.said(test), "3 passed, 0 failed\n")
             self.assertEqual([it.said(test) for it in (other, anew)], [None, None])
             self.assertIsNone(same.said(build))
-            # (where git lists no files nothing is told apart, and nothing is kept)
+            # (if git lists no files, there is no sum, and nothing is kept)
             beside.Passed(path, None, True).keep(test, "1 passed, 0 failed\n")
             self.assertEqual(beside.Passed(path, "the sum").said(test), "3 passed, 0 failed\n")
 
@@ -233,7 +233,7 @@ class Threads(unittest.TestCase):
     """How many threads a proof gets, of four processors."""
 
     def run_of(self, kind, sizes, free=64e9):
-        """Returns a run over crates of so many bytes, of which only `top` stands on others."""
+        """Returns a run over crates of these sizes in bytes. Only `top` depends on others."""
         run = kind.__new__(kind)
         run.rt = types.SimpleNamespace(processors=lambda: 4, free=lambda: free, need=lambda crate: 1e9)
         low = {name: types.SimpleNamespace(name=name, below=lambda: [], is_program=False, is_static=False) for name in sizes}
@@ -283,17 +283,17 @@ class Rows(unittest.TestCase):
     @unittest.skipUnless(shutil.which("rt"), "left out, since there is no rt")
     def test_what_is_written_of_dialogues_is_as_they_give_it(self):
         ran = subprocess.run([sys.executable, os.path.join(HERE, "rows.py"), "--check"], capture_output=True, text=True, check=False)
-        self.assertEqual((ran.returncode, ran.stdout), (0, "what is written from the dialogues is as it should be\n"))
+        self.assertEqual((ran.returncode, ran.stdout), (0, "the files written from the dialogues are up to date\n"))
 
 
 class Commands(unittest.TestCase):
     """The table of the commands, as the definitions and the page have it."""
 
-    # What is changed in which file, and what is told then.
+    # The changes: the file, the old text, the new text, and words of the fault that is reported then.
     CHANGED = (
         (commands.TABLE, 'codes "remove")', 'codes "takeOut")', "the definitions have no remove"),
         (commands.TABLE, '"cloneNode") (a_number ∷ a_flag ∷ [])', '"cloneNode") (a_number ∷ [])', "cloneNode has 2 arguments, and 1 in the definitions"),
-        (commands.TABLE, '"setData") (a_number ∷ a_text', '"setData") (a_number ∷ a_string', "setData has text, of which the page does not say what a_string is"),
+        (commands.TABLE, '"setData") (a_number ∷ a_text', '"setData") (a_number ∷ a_string', "setData has text, which the page does not describe as a_string"),
         (commands.PAGE, "| `insertBefore` parent node child? |", "| `insertBefore` parent node child |", "insertBefore has child, which is a_number_or_null"),
         (commands.PAGE, "| `remove` node | null |\n", "", "it has no row for remove, which the definitions have"),
         (commands.PAGE, "serves 83 commands", "serves 84 commands", "it says 84 commands"),
@@ -350,7 +350,7 @@ class Quoted(unittest.TestCase):
 
 
 class Promises(unittest.TestCase):
-    """The clauses of docs/proved.md, of which some are changed."""
+    """The clauses of docs/proved.md, with some of them changed."""
 
     CHANGED = (
         ("`delete_contents`: `left`;", "`delete_contents`: `lefts`;", "delete_contents has no clause lefts"),

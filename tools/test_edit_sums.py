@@ -68,7 +68,7 @@ FILES = {
 }
 ONE, TWO = "one_adds_none.edit", "two_adds_one.edit"
 ROWS = {"low": [], "high": ["low", "indexmap"]}
-# What is changed: the file, the text that goes, the text that comes, and the edits that are tried anew.
+# The changes: the file, the old text, the new text, and the edits that are tried anew.
 CHANGES = {
     "a body": ("crates/high/src/lib.rt", "    n + 2", "    2 + n", {TWO}),
     "its contract": ("crates/high/src/lib.rt", "n ≤ 99", "n ≤ 98", {TWO}),

@@ -1,5 +1,5 @@
 #!/usr/bin/env python3
-"""The tests of tools/edits.py, over a crate of six functions that is made here: what is refused, let through, bad, or refused elsewhere is told as such.
+"""The tests of tools/edits.py, over a crate of six functions that is made here. Edits that are refused, let through, bad, or refused elsewhere are reported so.
 
 The last line is `N passed, M failed`.
 """
@@ -13,7 +13,7 @@ import tempfile
 
 HERE = os.path.dirname(os.path.realpath(__file__))
 SCRIPTS = ("start.py", "progress.py", "edits.py", "edit_files.py", "edit_probes.py", "edit_sums.py", "edit_told.py", "edit_twins.py")
-SOURCE = """//! Six functions, of which one promises nothing, and one is of a type that another file declares.
+SOURCE = """//! Six functions: one promises nothing, and one is of a type that another file declares.
 #![tactic(auto)]
 
 mod pair;
@@ -80,7 +80,7 @@ pub struct Pair {
     pub other: u8,
 }
 """
-# The edits: the text that goes, the text that comes, what the line `at:` says, and what is to be told.
+# The edits: the old text, the new text, the words of the line `at:`, and the beginning of the expected report.
 EDITS = {
     "next_adds_nothing": ("    n + 1", "    n", "next: returns", "refused at next: returns"),
     "next_adds_two": ("    n + 1", "    n + 2", "next: returns", "refused at next: returns"),
@@ -118,7 +118,8 @@ def run(room, *words):
 
 
 def of_twins(room):
-    """Runs the edits that are refused where they are meant to be, which take a check of probes and one of what has none, and twins and probes with nothing edited; returns what was wrong."""
+    """Runs the edits that are refused where they are meant to be, which take a check of probes and one of the edits without. Then runs the controls: twins and
+    probes with nothing edited. Returns the faults."""
     for name in FAILED:
         os.remove(f"{room}/crates/small/edits/{name}.edit")
     said = run(room, "--anew").stderr

@@ -1,6 +1,6 @@
 #!/usr/bin/env python3
-"""Tests generated/ and all that builds of it, in copies of the repository where no Rattle kit is on the path: what is built and kept, changed bytes and sums, changed
-sources, and machines that lack something. Where the program was proved here, its build by the kit is compared with the one by the C compiler.
+"""Tests generated/ and all that is built of it, in copies of the repository, with no Rattle kit on the path. It tests builds and their keeping, changed bytes
+and sums, changed sources, and machines that lack something. If the program was proved here, its build by the kit is compared with the C compiler's.
 """
 import os
 import re
@@ -20,12 +20,12 @@ from start import ROOT
 
 GIVEN = b'["createElement",0,"p"]\n["appendChild",0,1]\n["tree",0]\n'
 DUE = b'{"ok":1}\n{"ok":1}\n{"ok":[[0,0,9,"#document"],[1,1,1,"p",[]]]}\n'
-# What a start, and a build, call.
+# The programs that a start and a build call.
 CALLED = ("sh", "find", "sha256sum", "mv", "mkdir", "ln", "python3", "cc", "gcc", "as", "ld", "ar", "nm", "xz", "dirname")
 COPIED = ("crates", "generated", "tools", "bindings", "crates.txt", "HANDLES", "domserve", "test")
 # The most that a start may take beside the program, in seconds of processor time.
 MOST = 0.05
-# How far the two builds may differ.
+# The most that the two builds may differ, as a share.
 NEAR = 0.01
 
 
@@ -37,7 +37,7 @@ def link(one, other):
 
 
 class Copy:
-    """A copy of the repository without what was built, and a path with few programs on it."""
+    """A copy of the repository without built files, and a path with few programs on it."""
 
     def __init__(self, folder):
         self.top, self.path = f"{folder}/copy", f"{folder}/path"
@@ -92,7 +92,7 @@ class OfCopy(unittest.TestCase):
         self.assertEqual(self.copy.domserve(**variables), (0, DUE, ""))
 
     def says(self, *sentences, **variables):
-        """A start fails, and says one sentence, which has these words."""
+        """Checks that a start fails with one sentence, which has these words."""
         status, out, said = self.copy.domserve(**variables)
         self.assertEqual((status, out), (1, b""))
         self.assertEqual((said.count("domserve: "), "Traceback" in said), (1, False), said)
@@ -105,7 +105,7 @@ class OfCopy(unittest.TestCase):
         self.copy.write(name, whole.replace(old, new, 1))
 
     def checks(self, *sentences):
-        """The comparison with the sums fails, and says these."""
+        """Checks that the comparison with the sums fails, and says these."""
         status, out, _ = self.copy.run("python3", "tools/assemble.py", "--check")
         self.assertEqual(status, 1)
         for it in sentences:
@@ -116,7 +116,7 @@ class Built(OfCopy):
     def test_a_start_builds_once_and_then_reads_nothing(self):
         self.serves()
         self.serves()
-        # (what is not needed any more)
+        # (these are not needed any more)
         for it in ("cc", "gcc", "python3", "xz"):
             self.copy.put(it, "#!/bin/sh\nexit 9\n")
         self.serves()
@@ -156,7 +156,7 @@ class Built(OfCopy):
         program = f"{self.copy.top}/crates/domserve/out/domserve"
         self.serves()
         took = {it: min(self.seconds(it) for _ in range(7)) for it in (program, f"{self.copy.top}/domserve")}
-        # (where each process costs more, as under a tracer, so does a start)
+        # (if each process costs more, as under a tracer, so does a start)
         shell = min(self.seconds(shutil.which("sh"), "-c", ":") for _ in range(7))
         self.assertLess(took[f"{self.copy.top}/domserve"] - took[program], max(MOST, 20 * shell))
 
@@ -198,7 +198,7 @@ class Lacking(OfCopy):
 
 
 class Changed(OfCopy):
-    """What stands in the folder is not what its sums say, or was made of other sources."""
+    """The files of generated/ are not those of their sums, or were made of other sources."""
 
     def file(self):
         return f"generated/{assemble.assembly(start.PROGRAM, assemble.machine_of())}"
@@ -266,7 +266,7 @@ class Changed(OfCopy):
 
 
 class Beside(unittest.TestCase):
-    """The program as the kit built it, and as the C compiler builds it of the assembly."""
+    """The program that the kit built, beside the one that the C compiler builds of the assembly."""
 
     def setUp(self):
         self.proved = start.built(start.PROGRAM)[0]

@@ -25,7 +25,7 @@ COVERED = (
 )
 # The folders of other code, whose files of the kinds in COMMENTS have to pass.
 FOLDERS = ("bench", "bindings", "domserve", "examples", "referee", "release", "serving", "tools")
-# Folders that hold what was built or fetched.
+# Folders that hold built or fetched files.
 MADE = {"__pycache__", "build", "dist", "node_modules", "out", "target"}
 # The page that lists the words to avoid, so it may have them.
 LISTING = "docs/writing.md"
@@ -34,8 +34,21 @@ AVOIDED = re.compile(
     r"(?:is|are|was|were) told|of which|by which|thereof|likewise|so many)\b",
     re.I,
 )
-# Beginnings of sentences in which such words are right, each with the reason.
-ALLOWED = {}
+# Files that may have such words, each with the reason.
+EXEMPT = {
+    "serving/tests/schema_1.sql": "the schema of an older version, as it was",
+    "tools/edit_files.py": "an edit is tried anew if a byte of the tools that try it has changed",
+    "tools/edit_probes.py": "the same",
+    "tools/edit_told.py": "the same",
+    "tools/edit_twins.py": "the same",
+    "tools/edits.py": "the same",
+    "tools/words.py": "it has the words to find",
+}
+# Parts of lines in which such words are right, each with the reason.
+ALLOWED = {
+    "the erased commands is what is left of what": "a comment in a file of proofs, which would be proved anew",
+    "- It shows what is lent": "a fault that a test finds",
+}
 MOST_WORDS = 35
 # Ends a paragraph, a list item or a row of a table.
 PARTED = re.compile(r"\n\s*\n|\n(?=\s*(?:[-*|]|\d+\.) )")
@@ -63,8 +76,6 @@ def faults_of_page(path):
         text = file.read()
     for line, part in prose_of(text):
         for sentence in SENTENCE.split(part):
-            if any(sentence.startswith(it) for it in ALLOWED):
-                continue
             found = AVOIDED.search(sentence) if path != LISTING else None
             if found:
                 yield f"{path}:{line}: '{found[0]}' in: {sentence[:90]}"
@@ -117,7 +128,7 @@ def faults_of_code(path):
         text = file.read()
     for number, line in enumerate(text.split("\n")):
         found = AVOIDED.search(line)
-        if found:
+        if found and not any(it in line for it in ALLOWED):
             yield f"{path}:{number + 1}: '{found[0]}' in: {line.strip()[:90]}"
     for line, comment in comments_of(path, text):
         for more, part in prose_of(comment):
@@ -139,7 +150,7 @@ def faults_of(path):
 def check():
     """Returns the faults of all files, and a line that says what holds without any."""
     files = files_of(COVERED) + files_of(f"{folder}/**/*{kind}" for folder in FOLDERS for kind in COMMENTS)
-    return [fault for path in files for fault in faults_of(path)], f"{len(files)} files are in the words of {LISTING}"
+    return [fault for path in files if path not in EXEMPT for fault in faults_of(path)], f"{len(files)} files are in the words of {LISTING}"
 
 
 if __name__ == "__main__":

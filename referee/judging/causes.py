@@ -1,8 +1,8 @@
-"""Causes of known differences, by name: what a player does in place of what is due, as far as the stream and both sides' answers tell it.
+"""Causes of known differences, by name. Each describes how a player's replies depart from the expected ones, as far as the stream and both replies show.
 
-A cause is asked of a difference that was shrunk, at the command that the difference comes from (judging.shown), and never of the command that shows
-it. What is due is the core's answers alone: a cause describes what is told beside them, and where it needs to know what other commands would have
-done, it asks the core. All that is told otherwise behind the command has to be explained, so that another fault of the same command is no such case.
+A cause is checked on a shrunk difference, at the command that the difference comes from (judging.shown), never at the command that shows it. Only the
+core's replies are expected; a cause describes the player's. If it needs the effects of other commands, it asks the core. It has to explain all that
+differs after the command, so that another fault of the same command does not match.
 """
 import re
 
@@ -22,7 +22,7 @@ EDITS = ("appendChild", "insertBefore", "replaceChild")
 
 
 def anything(shown):
-    """Whatever is told otherwise."""
+    """Anything differs."""
     return True
 
 
@@ -66,7 +66,7 @@ def name_of_a_copy(shown):
 
 
 def ids_of_a_copy(shown):
-    """A doctype's copy is told without its public id and its system id."""
+    """A copied doctype is reported without its public id and its system id."""
     without = lambda rows: [[*row[:4], "", ""] for row in rows]
     is_copied = shown.name == "cloneNode" and shown.kind(shown.values[0]) == DOCTYPE
     return is_copied and shown.only("tree") and all(told.get("ok") == without(due["ok"]) for _, due, told in shown.here)
@@ -84,7 +84,7 @@ def offset_at_the_end(shown):
 
 
 def units_of(data):
-    """How many units a text has as replies tell it."""
+    """Returns the number of units of a text in the form of replies."""
     return len(data.encode("utf-16-le")) // 2 if isinstance(data, str) else len(data)
 
 
@@ -94,7 +94,7 @@ def offset_past_the_end(shown):
 
 
 def nothing_is_replaced(shown):
-    """Data of which no unit is to be replaced stay as they were, though a text is to come in."""
+    """A text is to be inserted and no unit to be replaced: the data stay as they were."""
     _, _, count, text = shown.values if shown.name == "replaceData" else (None, None, None, None)
     return count == 0 and bool(text) and shown.only("tree") and shown.tells_as_after([])
 
@@ -105,64 +105,64 @@ def null_as_a_word(shown):
 
 
 def missing_attribute_is_empty(shown):
-    """A missing attribute is told as the empty text."""
+    """A missing attribute is reported as the empty text."""
     return shown.name == "getAttribute" and shown.is_at_end() and shown.due.get("ok", "") is None and shown.told.get("ok") == ""
 
 
 def missing_attribute_is_refused(shown):
-    """Taking out an attribute that is not there is refused."""
+    """The removal of a missing attribute is refused."""
     return shown.refuses("NotFoundError") and shown.name == "removeAttribute"
 
 
-# Nodes, and where they stand.
+# Nodes and their places.
 
 
 def node_above_or_document(shown):
-    """What is due to be refused, since the node is the parent or stands above it or the parent is a Document, is done or finds the child missing."""
+    """The node is the parent or its ancestor, or the parent is a Document. An edit that has to be refused is done, or refused for a missing child."""
     parent, _, _ = shown.edit()
     other = shown.accepts(BY_HIERARCHY) or shown.gives(BY_HIERARCHY, "NotFoundError")
     return other and (is_above(shown) or shown.kind(parent) == DOCUMENT)
 
 
 def node_above_the_parent(shown):
-    """What is due to be refused, since the node is the parent or stands above it, is done, or does not come back."""
+    """The node is the parent or its ancestor. An edit that has to be refused is done, or never replied to."""
     return shown.gives(BY_HIERARCHY, None) and "error" not in shown.told and is_above(shown)
 
 
 def is_above(shown):
-    """Whether the node is the parent or stands above it."""
+    """Returns whether the node is the parent or its ancestor."""
     parent, node, _ = shown.edit()
     return parent == node or shown.before.within(parent, node)
 
 
 def unasked_hierarchy(shown):
-    """What is due to be refused for where a node may stand is told otherwise."""
+    """An edit that has to be refused for the place of a node has another reply."""
     return shown.gives(BY_HIERARCHY, None)
 
 
 def node_taken_anywhere(shown):
-    """What is due to be refused for where a node may stand is done, or finds the child missing where the node stands above the parent."""
+    """An edit that has to be refused for the place of a node is done. If the node is the parent or its ancestor, it may be refused for a missing child."""
     return shown.accepts(BY_HIERARCHY) or (shown.gives(BY_HIERARCHY, "NotFoundError") and is_above(shown))
 
 
 def document_into_itself(shown):
-    """A Document that is to stand in itself, beside what is no child of it, is refused for the child."""
+    """A Document is to be inserted into itself, at a node that is no child of it, and is refused for that child."""
     parent, node, _ = shown.edit()
     return shown.gives(BY_HIERARCHY, "NotFoundError") and parent == node and shown.kind(node) == DOCUMENT
 
 
 def kind_ahead_of_child(shown):
-    """Where the child is not the parent's, it is refused for the node's kind."""
+    """The child is not the parent's, and the edit is refused for the node's kind."""
     return shown.gives("NotFoundError", BY_HIERARCHY)
 
 
 def child_of_another(shown):
-    """What is no child of the parent is taken out of it, or another node put in its place."""
+    """A node that is no child of the parent is removed or replaced."""
     return shown.accepts("NotFoundError")
 
 
 def childless_parent_fails(shown):
-    """What is due to be refused, since the node is no child, fails otherwise where the parent can have no children."""
+    """An edit has to be refused because the node is no child. The parent can have no children, and the edit fails for that."""
     return shown.gives("NotFoundError", "TypeError") and shown.kind(shown.values[0]) not in PARENTS
 
 
@@ -179,20 +179,20 @@ def nameless_refusal(shown):
 
 
 def endless_in_its_own_place(shown):
-    """A node that is to stand before itself, or in its own place, never comes back, or fills a list until that is too long."""
+    """A node is to be inserted before itself, or in its own place: the command never returns, or fills a list until that is too long."""
     _, node, child = shown.edit()
     ended = shown.told.get("fault") in ("hung", "died") or shown.told.get("error") == "RangeError"
     return ended and shown.is_at_end() and node == child
 
 
 def in_its_own_place(shown):
-    """A node is put in its own place."""
+    """A node is inserted in its own place."""
     _, node, child = shown.edit()
     return shown.name == "replaceChild" and node == child
 
 
 def fragment_is_adopted(shown):
-    """A node is told as it comes where each fragment that is put in is adopted first, by the node document of its new parent."""
+    """A node is reported as if each inserted fragment were first adopted into the node document of its new parent."""
     if shown.name != "node" or not shown.is_at_end():
         return False
     with shown.judge.core() as core:
@@ -205,7 +205,7 @@ def fragment_is_adopted(shown):
 
 
 def put_in(core, command):
-    """The parent, or a node of its document, and the node that a command puts in; none where it puts none in."""
+    """Returns the parent, or a node of its document, and the node that a command inserts; None if it inserts none."""
     name, *values = command
     if name == "insertNode":
         return core.ask("range", values[0])[0], values[1]
@@ -213,14 +213,14 @@ def put_in(core, command):
 
 
 def links_that_stay(shown):
-    """A node that comes in, and was taken out with all children of its parent at once, brings a sibling from there along, or never comes back."""
+    """The inserted node was removed with all children of its parent at once. A sibling from there is inserted too, or the command never returns."""
     node = shown.values[0] if shown.name == "adoptNode" else shown.values[1]
     out = next((at for at in reversed(range(shown.place)) if shown.turns[at].command[0] == "setTextContent" and parted(shown, at, node)), None)
     return out is not None and ("fault" in shown.told or any(question[0] in ("tree", "node", "children") for question, _, _ in shown.here))
 
 
 def parted(shown, at, node):
-    """Whether a node had a parent before a command, and siblings there, and has none after it."""
+    """Returns whether a node had a parent and siblings before a command, and has no parent after it."""
     before, after = shown.state(at - 1), shown.state(at)
     parent = before.parent.get(node)
     return parent is not None and len(before.children[parent]) > 1 and after.parent.get(node) is None
@@ -247,12 +247,12 @@ def without_name(row):
 
 
 def nothing_is_answered(shown):
-    """What is told is null, and not the child."""
+    """The reply is null, and not the child."""
     return shown.gives("ok", "ok") and shown.told["ok"] is None
 
 
 def node_document_alone(shown):
-    """A node is told as it is due, but for its node document."""
+    """Only the node document of a node differs."""
     if not shown.is_at_end() or not shown.gives("ok", "ok"):
         return False
     due, told = shown.due["ok"], shown.told["ok"]
@@ -260,7 +260,7 @@ def node_document_alone(shown):
 
 
 def text_content_alone(shown):
-    """The text content is told otherwise, or the length of a Document or doctype whose text content was set."""
+    """The text content differs, or the length of a Document or doctype whose text content was set."""
     is_text = shown.name == "textContent" or shown.kind(shown.values[0]) in (DOCUMENT, DOCTYPE)
     return shown.is_at_end() and shown.gives("ok", "ok") and is_text
 
@@ -271,17 +271,17 @@ def document_is_copied(shown):
 
 
 def nothing_in_its_own_place(shown):
-    """A child that is to be replaced by itself is told as null."""
+    """A child is to be replaced by itself, and the reply is null."""
     return in_its_own_place(shown) and nothing_is_answered(shown)
 
 
 def no_list_of_children(shown):
-    """What can have no children is asked for them, and is due to have an empty list."""
+    """The children of a node that can have none are asked for, and an empty list is expected."""
     return shown.refuses("TypeError") and shown.due["ok"] == []
 
 
 def joined_to_empty_texts(shown):
-    """The trees are those that come where each Text is joined to the one ahead of it, whether that is empty or not, and no Text goes but by that."""
+    """In the trees each Text is joined to the one ahead of it, even to an empty one. No other Text is removed."""
     if shown.name != "normalize" or not shown.only("tree", "node", "children"):
         return False
     trees = [it for it in shown.here if it[0][0] == "tree"]
@@ -292,7 +292,7 @@ def joined_to_empty_texts(shown):
 
 
 def joins_to_any(state, top):
-    """The commands that join each Text below a node to the one ahead of it."""
+    """Returns the commands that join each Text below a node to the one ahead of it."""
     found, first = [], None
     for number in descendants(state, top):
         if state.kind(number) != TEXT:
@@ -305,25 +305,25 @@ def joins_to_any(state, top):
 
 
 def node_is_the_child(shown):
-    """A node that is to stand before itself, or in its own place, is not found."""
+    """A node is to be inserted before itself, or in its own place, and is not found."""
     _, node, child = shown.edit()
     return shown.refuses("NotFoundError") and node == child
 
 
 def node_beside_itself(shown):
-    """A node that is to stand before itself, or before its next sibling, is refused."""
+    """A node is to be inserted before itself, or before its next sibling, and is refused."""
     _, node, child = shown.edit()
     return shown.refuses("*") and child is not None and child in (node, shown.before.sibling(node, 1))
 
 
 def fragment_is_answered(shown):
-    """What is told is the fragment that came in, or none, and not the child."""
+    """The reply is the inserted fragment, or null, and not the child."""
     _, node, _ = shown.edit()
     return shown.gives("ok", "ok") and shown.kind(node) == FRAGMENT and shown.told["ok"] in (node, None)
 
 
 def text_beside_text(shown):
-    """A Text comes to stand beside another, or a node comes in its own place, and trees alone are told otherwise."""
+    """A Text is inserted beside another, or a node in its own place, and only the trees differ."""
     parent, node, child = shown.edit()
     if "ok" not in shown.turns[shown.place].reply or not shown.is_at_end() and not shown.only("tree", "node", "children"):
         return False
@@ -356,7 +356,7 @@ def filter_was_given(shown):
 
 
 def reference_outside_the_root(shown):
-    """References that are due to be their roots are told to stand outside of them."""
+    """References that have to be the roots of their iterators are reported as nodes outside of those."""
 
     def fits(due, told):
         root, reference, _ = due["ok"]
@@ -366,7 +366,7 @@ def reference_outside_the_root(shown):
 
 
 def reference_left_in_removed(shown):
-    """Where all children of a node go at once, references are told to stand in what was removed."""
+    """All children of a node are removed at once, and references are reported as nodes in the removed trees."""
 
     def fits(due, told):
         root, _, _ = due["ok"]
@@ -379,18 +379,18 @@ def reference_left_in_removed(shown):
 
 
 def records_of_nothing(shown):
-    """What is told beside the due records are records of children in which nothing came and nothing went."""
+    """Besides the expected records there are records of children in which no node was added and none removed."""
     due, told = shown.records
     return shown.only("takeRecords") and same_records(due, something(told))
 
 
 def something(records):
-    """The records in which something came or went, or data or an attribute changed."""
+    """Returns the records in which a node was added or removed, or data or an attribute changed."""
     return [it for it in records if it.type != "childList" or it.added or it.removed]
 
 
 def no_transients(shown):
-    """What is told is what comes where no transient registration stands, or lacks what the command did in nodes that it took out itself."""
+    """The records are those without any transient registration, or lack the changes that the command made in nodes which it removed itself."""
     if not shown.only("takeRecords"):
         return False
     standing = standing_at(shown)
@@ -402,7 +402,7 @@ def no_transients(shown):
 
 
 def standing_at(shown):
-    """The commands of the registrations that stand at the cause and are not transient."""
+    """Returns the commands of the registrations at the cause that are not transient."""
     found = []
     for turn in shown.turns[: shown.place]:
         name, *values = turn.command
@@ -414,12 +414,12 @@ def standing_at(shown):
 
 
 def old_parent_is_silent(shown):
-    """What is not told is that the node which comes in went from its old parent."""
+    """The record of the inserted node's removal from its old parent is missing."""
     return all_left_out(shown, lambda it: it.type == "childList" and it.removed == [shown.values[1]] and not it.added)
 
 
 def transients_outlive_notify(shown):
-    """What is told beside the due records is what comes where notify ends the transients of those observers alone that it tells of."""
+    """The records are those after a notify that ends the transient registrations of only those observers that it notifies."""
     at = next((at for at in reversed(range(shown.place)) if shown.turns[at].command[0] == "notify"), None)
     if at is None or not shown.only("takeRecords"):
         return False
@@ -434,12 +434,12 @@ def transients_outlive_notify(shown):
 
 
 def observers_by_age(shown):
-    """notify tells each observer its records, and the observers in the order in which they were made."""
+    """notify returns the records of each observer, and the observers in the order in which they were made."""
     return shown.name == "notify" and shown.gives("ok", "ok") and sorted(shown.due["ok"], key=lambda it: it[0]) == shown.told["ok"]
 
 
 def records_of_equal_data(shown):
-    """What is not told are records of data that stayed as it was."""
+    """The records of data that stayed as they were are missing."""
     return all_left_out(shown, lambda it: it.type == "characterData" and shown.before.data(it.target) == shown.after.data(it.target))
 
 
@@ -449,12 +449,12 @@ def all_left_out(shown, fits):
 
 
 def joined_one_by_one(shown):
-    """The records are those that come where each Text is joined to the first by itself, with a record of the data each, and empty Texts just go."""
+    """By the records each Text is joined to the first by itself, with a record of the data each. Empty Texts are only removed."""
     return shown.name == "normalize" and shown.records_are(shown.records_where(joins_of(shown.before, shown.values[0])))
 
 
 def joins_of(state, top):
-    """The commands that join the Texts below a node one by one."""
+    """Returns the commands that join the Texts below a node one by one."""
     found, first = [], None
     for number in descendants(state, top):
         kind, data = state.kind(number), state.data(number)
@@ -468,25 +468,25 @@ def joins_of(state, top):
 
 
 def descendants(state, top):
-    """The nodes below a node, in tree order."""
+    """Returns the descendants of a node, in tree order."""
     return [it for child in state.children.get(top, ()) for it in (child, *descendants(state, child))]
 
 
 def neighbours(state, one, other):
-    """Whether two siblings have nothing but Texts between them."""
+    """Returns whether two siblings have only Texts between them."""
     around = state.children[state.parent[one]]
     return other in around and all(state.kind(it) == TEXT for it in around[around.index(one) : around.index(other)])
 
 
 def taken_out_first(shown):
-    """What is told is what comes where the node is removed ahead of the command."""
+    """The records are those that result if the node is removed ahead of the command."""
     parent, node, *child = shown.values
     in_its_own_place = ["insertBefore", parent, node, shown.before.sibling(node, 1)]
     return node is not None and shown.records_are(shown.records_where([["remove", node], in_its_own_place if child == [node] else shown.cause]))
 
 
 def data_ahead_of_the_new_text(shown):
-    """The record of the data that was split is told ahead of that of the new Text, and else all is as it is due."""
+    """The record of the split data is ahead of the record of the new Text. All else is as expected."""
     due, told = shown.records
     split = shown.values[0] if shown.name == "splitText" else shown.before.ends[shown.values[0], 0][0]
     found, at = list(told), 0
@@ -500,13 +500,13 @@ def data_ahead_of_the_new_text(shown):
 
 
 def children_one_by_one(shown):
-    """Children of the new parent are told to go one by one, where they are due to go at once; records of nothing aside, the rest is as it is due."""
+    """Children of the new parent are removed one by one, and not at once. But for records without nodes, the rest is as expected."""
     due, told = shown.records
     return shown.only("takeRecords") and joined(due, shown.values[1]) == joined(something(told), shown.values[1])
 
 
 def joined(records, parent):
-    """Records in which children that went from a parent, one record behind another, are told by one."""
+    """Returns the records, with successive ones of children that were removed from a parent combined into one."""
     found = []
     for it in records:
         gone = (it.observer, sorted(it.removed)) if it.target == parent and it.removed and not it.added else None
@@ -518,18 +518,18 @@ def joined(records, parent):
 
 
 def data_sooner(shown):
-    """Records of data are told sooner than they are due beside those of children, and each kind of them in its order."""
+    """Records of data are earlier than expected among those of children. Each kind is in its own order."""
     due, told = shown.records
     kinds = [[[it for it in records if (it.type == "characterData") == data] for data in (True, False)] for records in (due, told)]
     return shown.only("takeRecords") and all(same_records(*it) for it in zip(*kinds))
 
 
-# Ends of ranges. A cause is asked of each end that is told otherwise, and nothing else may be.
+# Ends of ranges. A cause is checked on each end that differs, and nothing else may differ.
 
 
 def sent_into_the_parent(shown):
-    """Ends in other nodes are told in the parent of what came in, in which the other end stands, as if their offsets were places there. Where a range
-    for insertNode seems to be collapsed by that, its end is told behind the node.
+    """Ends in other nodes are reported in the parent of the inserted node, which has the other end, as if their offsets counted its children. If the
+    range of insertNode seems collapsed by that, its end is reported behind the node.
     """
     least = 0 if is_nothing_put_in(shown) else 1
     offset = lambda it: it.due[1] if it.due[0] == it.before[0] else it.before[1]
@@ -539,22 +539,22 @@ def sent_into_the_parent(shown):
 
 
 def is_nothing_put_in(shown):
-    """Whether what comes in is a fragment without children."""
+    """Returns whether the inserted node is a fragment without children."""
     return shown.name in (*EDITS, "insertNode") and shown.kind(shown.values[1]) == FRAGMENT and not shown.before.children.get(shown.values[1])
 
 
 def last_in(shown, node):
-    """The last node that comes in with a node: a fragment's last child, or itself."""
+    """Returns the last node that is inserted with a node: a fragment's last child, or the node itself."""
     return shown.before.children[node][-1] if shown.kind(node) == FRAGMENT else node
 
 
 def joined_end_in_the_parent(shown):
-    """Ends that are due in a Text which others were joined to are told in its parent."""
+    """Ends that have to be in a Text to which others were joined are reported in its parent."""
     return shown.all_moved(lambda it: shown.after.kind(it.due[0]) == TEXT and shown.after.parent[it.due[0]] == it.told[0])
 
 
 def end_in_an_empty_text(shown):
-    """Ends that stood in an empty Text behind another, and are due in the one that it was joined to, are told in the parent."""
+    """Ends were in an empty Text, and have to be in the Text to which that was joined. They are reported in the parent."""
 
     def fits(it):
         ahead = shown.before.sibling(it.before[0], -1)
@@ -569,13 +569,13 @@ def text_is_normalized(shown):
 
 
 def end_in_the_new_text(shown):
-    """The Text that is split has no parent, and ends in it are told in the new one."""
+    """The split Text has no parent, and ends in it are reported in the new Text."""
     text, made = shown.values[0], shown.turns[shown.place].reply["ok"]
     return shown.before.parent[text] is None and shown.all_moved(lambda it: it.before[0] == it.due[0] == text and it.told[0] == made)
 
 
 def sibling_from_ahead(shown):
-    """A node that stands in the parent already, ahead of the place, is refused for the offset."""
+    """A node that is in the parent already, ahead of the place, is refused for the offset."""
     return shown.refuses("IndexSizeError") and comes_from_ahead(shown)
 
 
@@ -588,7 +588,7 @@ def comes_from_ahead(shown):
 
 
 def end_one_too_far(shown):
-    """The node that is inserted stood in the parent ahead of the place, and the end is told one place too far."""
+    """The inserted node was in the parent, ahead of the place, and the end is reported one place too far."""
     return comes_from_ahead(shown) and shown.all_moved(lambda it: it.told == (it.due[0], it.due[1] + 1))
 
 
@@ -608,7 +608,7 @@ CAUSES = {it.__name__.replace("_", " "): it for its in LISTED for it in its}
 
 
 def holds(entry, shown):
-    """Whether the cause of an entry holds; it does not where what it asks for is not there."""
+    """Returns whether the cause of an entry holds. It does not if the difference lacks a thing that it asks for."""
     if shown.name not in COMMANDS or shown.name not in entry.get("of", [shown.name]):
         return False
     try:

@@ -25,7 +25,7 @@ from judging.streams import play_commands
 SAME, DIFFERS, WRONG_WORDS, NOT_THERE = range(4)
 
 STATUSES = """
-Statuses: 0 where nothing new was found, 1 where something was, 2 for wrong words, 3 where the core or the player is not there or fails to start.
+Statuses: 0 if nothing new was found, 1 if something was, 2 for wrong words, 3 if the core or the player is missing or fails to start.
 """
 
 
@@ -43,13 +43,13 @@ def words_of_known(parser):
 
 def words_of_run(parser):
     words_of_player(parser)
-    parser.add_argument("--for", dest="time", type=float, metavar="SECONDS", help="ends after so many seconds")
-    parser.add_argument("--lines", type=int, metavar="N", help="ends after so many lines")
-    parser.add_argument("--new", type=int, metavar="N", help="ends after so many new differences")
+    parser.add_argument("--for", dest="time", type=float, metavar="SECONDS", help="ends after this many seconds")
+    parser.add_argument("--lines", type=int, metavar="N", help="ends after N lines")
+    parser.add_argument("--new", type=int, metavar="N", help="ends after N new differences")
     words_of_known(parser)
-    parser.add_argument("--out", default="referee-out", metavar="FOLDER", help="where what is found is kept (referee-out)")
+    parser.add_argument("--out", default="referee-out", metavar="FOLDER", help="the folder for the cases found (referee-out)")
     parser.add_argument("--junit", metavar="FILE", help="writes the run as JUnit XML too")
-    parser.add_argument("--quiet", action="store_true", help="tells no progress")
+    parser.add_argument("--quiet", action="store_true", help="shows no progress")
 
 
 def weight(word):
@@ -76,7 +76,7 @@ def parser_of():
     play.add_argument("--length", type=int, default=80, metavar="N", help="how long a stream gets (80)")
     play.add_argument("--save", metavar="FILE", help="keeps the streams with the core's replies, for other players")
     play.add_argument("--from", dest="saved", metavar="FILE", help="plays the streams that a file keeps, and draws none")
-    play.add_argument("--streams", type=int, metavar="N", help="ends after so many streams")
+    play.add_argument("--streams", type=int, metavar="N", help="ends after N streams")
     exhaust = parts.add_parser("exhaust", help="plays all short scenes of a kind", **raw)
     words_of_run(exhaust)
     exhaust.add_argument("--kind", action="append", choices=list(KINDS), help="only scenes of this kind; may be given more than once")
@@ -85,20 +85,20 @@ def parser_of():
         words_of_player(part)
         words_of_known(part)
         part.add_argument("file", help="lines, one command each, or a kept case")
-    report = parts.add_parser("report", help="writes the page of what a run kept", **raw)
+    report = parts.add_parser("report", help="writes the page of a run's cases", **raw)
     report.add_argument("folder", help="the folder that play or exhaust wrote")
     words_of_known(report)
     report.add_argument("-o", dest="to", metavar="FILE", help="the page (report.html in the folder)")
     issue = parts.add_parser("issue", help="writes a fault of a report as text for its maintainers' tracker, or lists the faults", **raw)
     issue.add_argument("name", choices=sorted(REPORTS), help="the report")
     issue.add_argument("number", type=int, nargs="?", metavar="N", help="the number of the fault; without it all are listed")
-    players = parts.add_parser("players", help="tells which players are here, and what their adapters do themselves", **raw)
+    players = parts.add_parser("players", help="lists the installed players, with their adapters' own work", **raw)
     words_of_player(players)
     return parser
 
 
 def saved(path):
-    """The streams that a file keeps."""
+    """Yields the streams that a file keeps."""
     with open(path, encoding="utf-8") as file:
         for line in file:
             group, seed, turns = json.loads(line)
@@ -106,7 +106,7 @@ def saved(path):
 
 
 def drawn(given, player):
-    """Streams without an end, of the groups in turn; or those that a file keeps."""
+    """Yields streams without an end, of the groups in turn; or those that a file keeps."""
     if given.saved:
         yield from saved(given.saved)
         return
@@ -117,7 +117,7 @@ def drawn(given, player):
 
 
 def exhausted(given, player):
-    """All scenes of the kinds that the player serves."""
+    """Yields all scenes of the kinds that the player serves."""
     for kind in given.kind or list(KINDS):
         if player.serves is not None and not NEEDS[kind] <= player.serves:
             print(f"left out: {kind}, since {player.name} has no {', '.join(sorted(NEEDS[kind] - player.serves))}", file=sys.stderr)
@@ -146,7 +146,7 @@ def run_of(given, streams):
 
 
 def commands_of(path):
-    """The commands of a file of lines, or of a case."""
+    """Returns the commands of a file of lines, or of a case."""
     kept = case_in(path)
     if kept:
         return kept["commands"]
@@ -155,7 +155,7 @@ def commands_of(path):
 
 
 def case_in(path):
-    """The case that a file keeps; none where it has lines."""
+    """Returns the case that a file keeps, or None if it has lines."""
     with open(path, encoding="utf-8") as file:
         try:
             found = json.load(file)
@@ -178,7 +178,7 @@ def replay(given):
         differs = differs or here
         print(line(turn.command), line(turn.reply), *(["BUT", line(other)] if here or "skip" in other else []), sep="\t")
     if kept and not differs:
-        print(f"{line(kept['told'])} was told to the last line when the case was kept, and did not come again", file=sys.stderr)
+        print(f"the reply to the last line when the case was kept, {line(kept['told'])}, did not come again", file=sys.stderr)
     return DIFFERS if differs else SAME
 
 

@@ -1,7 +1,6 @@
-"""The commands that streams are made of: the form of each one's arguments, what it makes, and whether it changes anything.
+"""The commands that streams are made of: the forms of their arguments, the objects that they make, and whether they change anything.
 
-Their names and arguments are those of docs/commands.json; docs/commands.md tells what each does. Nothing here says what a command answers: that is the
-core's alone.
+Their names and arguments are those of docs/commands.json; docs/commands.md describes each. This module has no answers: those are the core's alone.
 """
 import json
 import os
@@ -28,7 +27,7 @@ OBJECTS = {
     "static": "static",
 }
 
-# The form of an argument, where it is not the name that the table has for it; and in a group or a command.
+# The form of an argument, if it is not its name in the table; and those in a group or a command.
 FORMS = {"root": "node", "other": "node", "text": "units", "value": "units", "public": "id", "system": "id", "deep": "flag", "to_start": "flag"}
 FORMS_IN = {
     ("data", "node"): "data",
@@ -40,7 +39,7 @@ FORMS_IN = {
 # Forms whose values are null too, beside others, as they are drawn.
 WITH_NULL = ("force",)
 
-# What makes an object, by its kind; of "nodes" more may be made inside.
+# The commands that make an object, by its kind; those of "nodes" may make more nodes inside.
 MAKES = {
     "node": "newDocument createElement createText createComment createPI createDoctype createFragment",
     "nodes": "importNode cloneNode setTextContent splitText extractContents cloneContents insertNode surroundContents",
@@ -50,26 +49,26 @@ MAKES = {
     "walker": "createWalker",
     "observer": "createObserver",
 }
-# What changes nothing that later replies tell.
+# The commands that change nothing in later replies.
 ASKS = """
 node children index length root contains isEqual comparePosition textContent tree data substringData getAttribute hasAttribute attributeNames range
 compareBoundaryPoints comparePoint isPointInRange intersectsNode commonAncestor staticRange rangeText iterator walker pending
 """.split()
 
-# A step of an iterator or a walker, and what empties a queue, changes something and tells it at once.
+# Commands that change something and report it at once: a step of an iterator or a walker, and those that empty a queue.
 TELLS_ITSELF = {"nextNode", "previousNode", "walk", "takeRecords", "notify"}
 
 MOVES, FLAGS = TABLE["moves"], TABLE["flags"]
 ELEMENT, TEXT, PI, COMMENT, DOCUMENT, DOCTYPE, FRAGMENT = 1, 3, 7, 8, 9, 10, 11
 PARENTS = (ELEMENT, FRAGMENT, DOCUMENT)
 WITH_DATA = (TEXT, PI, COMMENT)
-# What makes a node of a kind, and which kind each maker makes.
+# The command that makes a node of each kind, and the kind that each maker makes.
 MAKERS = {ELEMENT: "createElement", TEXT: "createText", COMMENT: "createComment", PI: "createPI", DOCTYPE: "createDoctype", FRAGMENT: "createFragment"}
 MADE = {**{name: kind for kind, name in MAKERS.items()}, "newDocument": DOCUMENT}
 
 
 def form_in(row, argument):
-    """The form of an argument of a row of the table."""
+    """Returns the form of an argument of a row of the table."""
     name = argument["name"]
     form = FORMS_IN.get((row["name"], name)) or FORMS_IN.get((row["group"], name)) or FORMS.get(name, name)
     return form + "?" if argument["nullable"] and form not in WITH_NULL else form
@@ -84,5 +83,5 @@ COMMANDS = {it["name"]: command(it) for it in TABLE["commands"]}
 
 
 def kind_of(form):
-    """The kind of object that an argument of this form names; none where it names none."""
+    """Returns the kind of object that an argument of this form names, or None if it names none."""
     return OBJECTS.get(form.rstrip("?"))

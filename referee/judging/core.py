@@ -1,4 +1,4 @@
-"""The core that judges: a process of the program for each world, and what its replies tell of the numbers that exist."""
+"""The core that judges: a process of the program for each world, and the numbers that exist by its replies."""
 import json
 import os
 from collections import namedtuple
@@ -7,15 +7,15 @@ from judging.commands import COMMANDS
 from judging.library import Library, Session
 from judging.process import STARTS, Lines, line_of, read_reply
 
-# A command that was played: its line, its reply, the numbers of nodes that it made, and what a player that numbers by place is told.
+# A command that was played: its line, its reply, and the numbers of nodes that it made. `places` and `next` are sent to players that number by place.
 Turn = namedtuple("Turn", "command reply made places next")
 
 KINDS = ("node", "range", "static", "iterator", "walker", "observer")
 
 
 class Cores:
-    """Where worlds come from: a process of the program for each; sessions of the library, where a libhuckleport.so is named; or one process for all,
-    where it says hello as players do.
+    """Opens worlds. If a libhuckleport.so is named, each is a session of the library. If a process says hello as players do, it serves all. Otherwise
+    each is a process of the program.
     """
 
     def __init__(self, path):
@@ -42,7 +42,7 @@ class Cores:
 
 
 class Core:
-    """One world. `end` is what becomes of its process."""
+    """One world. `end` ends or keeps its process."""
 
     def __init__(self, lines, end):
         self.lines, self.done = lines, end
@@ -50,14 +50,14 @@ class Core:
         self.next["node"] = 1
 
     def ask(self, *command):
-        """The answer to a question; None also where it is refused."""
+        """Returns the answer to a question; None also if it is refused."""
         return self.reply(command).get("ok")
 
     def reply(self, command):
         return read_reply(self.lines.ask(line_of(command)))
 
     def play(self, command):
-        """Plays a command, and finds out what it made."""
+        """Plays a command, and finds the objects that it made."""
         reply = self.reply(command)
         known = COMMANDS.get(command[0])
         if not known or not known.makes or "ok" not in reply:
@@ -69,7 +69,7 @@ class Core:
         return Turn(command, reply, made, self.places(made), self.next["node"])
 
     def made(self):
-        """The nodes that are there since the last command."""
+        """Returns the nodes that are new since the last command."""
         found = []
         while "ok" in self.reply(["node", self.next["node"]]):
             found.append(self.next["node"])
@@ -77,7 +77,7 @@ class Core:
         return found
 
     def places(self, made):
-        """The trees in which the nodes stand that a command made, each by the numbers of its nodes in tree order."""
+        """Returns the trees of the nodes that a command made, each as the numbers of its nodes in tree order."""
         roots = dict.fromkeys(self.ask("root", it) for it in made)
         return [[root, [row[1] for row in self.ask("tree", root)]] for root in roots]
 

@@ -1,7 +1,7 @@
 """Streams of commands drawn by chance: by a group and its weights, a length and a seed.
 
-What may stand in a command is asked of the core as the stream goes on: which nodes there are, what their children are, how long they are. A
-refused command changes nothing, so most of those that were refused are left out of the stream, and the rest of it stands.
+The values of a command are drawn from the core's state: its nodes, their children and their lengths. A refused command changes nothing, so most of the
+refused ones are left out, and the rest of the stream stays valid.
 """
 import random
 from collections import namedtuple
@@ -9,15 +9,15 @@ from collections import namedtuple
 from judging.commands import COMMANDS, COMMENT, DOCTYPE, DOCUMENT, ELEMENT, FLAGS, FRAGMENT, MADE, MAKERS, MOVES, PARENTS, PI, TEXT, WITH_DATA, kind_of
 from judging.hanging import DRAWN
 
-# What is there ahead of the drawn commands, how often each of these is drawn, and whether it is about Texts side by side.
+# The numbers of objects ahead of the drawn commands, the weights of these commands, and whether the group is about Texts side by side.
 Group = namedtuple("Group", "ranges iterators walkers observers weights texts", defaults=(False,))
 
 KEEPS_REFUSED = 0.3
-# So many ranges are asked for after a change.
+# The most ranges that are queried after a change.
 MOST_RANGES = 8
 # How often one of them is set anew in a stream about Texts.
 CROSSES = 0.15
-# How often what was removed is changed next, with no observer, one, and more.
+# How often a removed node is changed next: with no observer, with one, and with more.
 CHANGES_REMOVED = (0, 0.05, 0.3)
 UNITS = ("", "a", "ab", "abc", "abcd", "\u00e9", "\U0001f600", "a\U0001f600b", [55357], [56832, 97], "]]>", " \n", "0")
 # Data whose offsets go beyond the places among some siblings.
@@ -27,9 +27,9 @@ ODD_NAMES = ("", "1a", "a b", "\u00e9", ":a", "a=b", "a>b", "-a", "A", "a:b", "a
 ATTRIBUTES = ("x", "y", "x", "k")
 SHOWS = (4294967295, 4294967295, 4294967295, 1, 4, 5, 128, 1024, 0)
 FILTERS = ([], [], [["b", "skip"]], [["b", "reject"]], [["#text", "reject"]], [["#text", "skip"]], [["a", "skip"], ["*", "accept"]], [["*", "skip"]])
-# Steps, and the question that tells where they came to.
+# Steps, and the question that returns the position after them.
 STEPPING = {"nextNode": "iterator", "previousNode": "iterator", "walk": "walker"}
-# Where these name the node that they take out.
+# The argument that names the removed node.
 REMOVING = {"remove": 1, "removeChild": 2}
 
 MAKING = {"createElement": 2, "createText": 3, "createComment": 1, "createPI": 1, "createFragment": 1, "createDoctype": 0.3, "newDocument": 0.2}
@@ -76,17 +76,17 @@ class Scene:
         self.turns, self.gone = [], []
         self.main, self.rows = 0, None
 
-    # saying commands
+    # playing commands
 
     def may_say(self, name):
         return self.serves is None or name in self.serves
 
     def hangs(self, command, reply=None):
-        """Whether a command is passed over, since the player is known not to come back from it."""
+        """Returns whether a command is passed over because of a known hang of the player."""
         return self.hanging.fits(command, reply) and self.chance.random() >= DRAWN
 
     def say(self, name, *values, keeps=1.0):
-        """Plays a command, and keeps it where it was not refused, or by chance. Returns the answer."""
+        """Plays a command, and keeps it if it was not refused, or by chance. Returns the answer."""
         if self.hangs([name, *values]):
             return None
         turn = self.core.play([name, *values])
@@ -113,7 +113,7 @@ class Scene:
             self.gone = [it for it in self.kinds if not self.core.ask("node", it)]
             self.kinds = {number: kind for number, kind in self.kinds.items() if number not in self.gone}
 
-    # drawing what stands in a command; None where there is no such thing
+    # drawing the values of a command; None if there is no such object
 
     def of_kinds(self, *kinds):
         found = [it for it, kind in self.kinds.items() if kind in kinds]
@@ -124,7 +124,7 @@ class Scene:
         return self.chance.choice(list(self.kinds))
 
     def inside(self):
-        """A node of the tree that most of the stream is about."""
+        """Returns a node of the tree that most of the stream is about."""
         if self.main not in self.kinds:
             self.main, self.rows = self.any_node(), None
         if self.rows is None:
@@ -143,7 +143,7 @@ class Scene:
         return self.of_kinds(*PARENTS) if self.chance.random() < 0.97 else self.any_node()
 
     def child(self, given):
-        """A child of the parent that the command names, or of the one that the range starts in."""
+        """Returns a child of the parent that the command names, or of the one that the range starts in."""
         children = self.core.ask("children", given[0]) if given else None
         if children and self.chance.random() < 0.92:
             return self.chance.choice(children)
@@ -159,7 +159,7 @@ class Scene:
         return self.of_kinds(TEXT)
 
     def offset(self, given):
-        """An offset of the node that was named last: mostly at an end or beside one."""
+        """Returns an offset of the node that was named last, mostly at an end or beside one."""
         length = self.core.ask("length", given[-1]) or 0
         inside = self.chance.randint(0, length)
         return self.chance.choice((0, length, length, max(length - 1, 0), min(1, length), inside, inside, length + 1))
@@ -209,7 +209,7 @@ class Scene:
         return found
 
     def drawn(self, name):
-        """A command of that name; None where an object that it needs is not there."""
+        """Returns a command of that name, or None if an object that it needs is missing."""
         values = []
         for form in COMMANDS[name].arguments:
             bare = form.rstrip("?")
@@ -223,7 +223,7 @@ class Scene:
                 values.append(getattr(self, bare)(values))
         return [name, *values]
 
-    # what stands ahead of the drawn commands, and what is asked behind each of them
+    # the commands ahead of the drawn ones, and the questions behind each of those
 
     def make(self, kind):
         maker = MAKERS[kind]
@@ -231,12 +231,12 @@ class Scene:
         return self.say(*values) if self.may_say(maker) else None
 
     def append(self, parent, made):
-        """Appends what was made, unless its maker was refused."""
+        """Appends a made node, unless its maker was refused."""
         if made is not None:
             self.say("appendChild", parent, made)
 
     def plant(self):
-        """A small tree, in which Texts often stand side by side."""
+        """Makes a small tree, in which Texts are often side by side."""
         self.main = self.say("createElement", 0, "a")
         with_doctype = self.documents and self.may_say("createDoctype") and self.chance.random() < 0.25
         if with_doctype:
@@ -250,7 +250,7 @@ class Scene:
                 self.say("appendChild", self.chance.choice(parents), made)
 
     def plant_texts(self):
-        """A parent in which Texts stand side by side, now and then with something else between them."""
+        """Makes a parent of Texts side by side, now and then with another node between them."""
         self.main = self.say("createElement", 0, "a")
         for _ in range(self.chance.randint(3, 6)):
             kind = self.chance.choice((*(TEXT,) * 8, ELEMENT, COMMENT))
@@ -270,7 +270,7 @@ class Scene:
             self.say(name, number, *point)
 
     def plant_fragment(self):
-        """A fragment that has a child or two."""
+        """Makes a fragment that has a child or two."""
         made = self.make(FRAGMENT)
         for kind in (TEXT, self.chance.choice((ELEMENT, TEXT, COMMENT))) if made is not None else ():
             self.append(made, self.make(kind))
@@ -292,7 +292,7 @@ class Scene:
             self.observe(self.say("createObserver"))
 
     def observe(self, observer):
-        """An observer of most of what happens, and often of a fragment, or of another node with other options."""
+        """Makes an observer of most changes, and often of a fragment, or of another node with other options."""
         self.say("observe", observer, self.inside(), {**self.options([]), "childList": True, "subtree": True})
         more = self.chance.random()
         fragment = self.plant_fragment() if more < 0.3 else None
@@ -301,7 +301,7 @@ class Scene:
             self.say("observe", observer, node, {**self.options([]), "childList": True, "attributes": True, "characterData": True})
 
     def probe(self):
-        """Questions that show what a change did."""
+        """Asks questions that show the effects of a change."""
         for number in self.objects["range"][:MOST_RANGES]:
             self.say("range", number)
         for kind in ("iterator", "walker"):
@@ -316,7 +316,7 @@ class Scene:
                 self.say(name, self.inside())
 
     def step(self, command):
-        """Says a command and asks what it did. What an iterator or a walker came to is often taken out next."""
+        """Plays a command and asks about its effects. The node that an iterator or a walker reached is often removed next."""
         count = len(self.turns)
         answer = self.say(*command, keeps=KEEPS_REFUSED) if command else None
         if len(self.turns) == count or "ok" not in self.turns[-1].reply:
@@ -333,7 +333,7 @@ class Scene:
             self.step(["remove", answer])
 
     def change_removed(self, node):
-        """Changes a node that was removed, of which observers may still be told, or discards it; it may be observed first, or all are notified."""
+        """Changes or discards a removed node, whose observers may still be notified. Before a change it may be observed, and notify be played."""
         if self.may_say("discard") and self.chance.random() < 0.2:
             self.say("discard", node)
             return
@@ -348,7 +348,7 @@ class Scene:
             self.step(change)
 
     def close(self):
-        """All trees, and what every observer is still to be told."""
+        """Asks for all trees, and for the pending records of every observer."""
         roots = dict.fromkeys(self.core.ask("root", it) for it in self.kinds)
         for root in list(roots)[:6]:
             self.say("tree", root)
@@ -357,7 +357,7 @@ class Scene:
 
 
 def drawn_stream(core, seed, group, length, player, given=None):
-    """The turns of a stream. `given` are weights that stand in for those of the group."""
+    """Returns the turns of a stream. `given` are weights in place of the group's."""
     chance = random.Random(seed)
     scene, plan = Scene(core, chance, player), GROUPS[group]
     found = {**plan.weights, **(given or {})}

@@ -1,4 +1,4 @@
-"""What a run found, kept in a folder: a file for each case, and one for the run."""
+"""The findings of a run, kept in a folder: a file for each case, and one for the run."""
 import json
 import os
 from dataclasses import asdict, dataclass, field
@@ -10,9 +10,14 @@ from judging.moments import place_of
 
 @dataclass
 class Case:
-    """A shrunk difference. `count` is how often it was seen, `known` the name of its entry, `place` that of the command that it comes
-    from, `moments` the state behind each command, `again` whether it came again when its stream was played anew, and `around` the faults that the
-    adapter played around.
+    """A shrunk difference.
+
+    - `count`: how often it was seen
+    - `known`: the name of its entry
+    - `place`: the place of the command that it comes from
+    - `moments`: the state behind each command
+    - `again`: whether it came again when its stream was played anew
+    - `around`: the faults that the adapter played around
     """
 
     player: str
@@ -40,7 +45,7 @@ class Case:
 
 
 def name_of(commands):
-    """Streams that shrink to the same commands are one case, which has this name."""
+    """Returns the name of a case. Streams that shrink to the same commands are one case."""
     return json.dumps(list(commands))
 
 
@@ -69,7 +74,7 @@ class Found:
         return self.cases.get(name_of(it.command for it in difference.turns))
 
     def keep(self, case):
-        """Adds a case, and writes it at once, so that it stays whatever becomes of the run."""
+        """Adds a case, and writes it at once, so that it stays even if the run fails."""
         self.cases[case.name()] = case
         self.write("case-%03d.json" % len(self.cases), asdict(case))
 
@@ -88,7 +93,7 @@ class Found:
 
 
 def cases_of(folder):
-    """The cases that a folder has, and what is told of the run."""
+    """Returns the cases of a folder, and the summary of the run."""
     found = []
     for name in sorted(os.listdir(folder)):
         if name.startswith("case-") and name.endswith(".json"):

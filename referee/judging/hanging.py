@@ -1,4 +1,4 @@
-"""Commands that a player is known not to come back from: they are drawn a hundredth as often, and their replies are waited for a short time.
+"""Commands to which a player is known not to reply: they are drawn a hundredth as often, and their replies are waited for a short time.
 
 An entry of the known differences names one of these in its member `hangs`. A rule is asked of a command ahead of its reply (then that is None), and
 again with the core's reply.
@@ -9,17 +9,17 @@ WITH_CHILD = ("insertBefore", "replaceChild")
 
 
 def in_its_own_place(command, reply):
-    """A node is put before itself or in its own place."""
+    """A node is inserted before itself or in its own place."""
     return command[0] in WITH_CHILD and command[2] == command[3]
 
 
 def into_itself(command, reply):
-    """A node is put into itself."""
+    """A node is inserted into itself."""
     return command[0] in (*WITH_CHILD, "appendChild") and command[1] == command[2]
 
 
 def refused_for_its_place(command, reply):
-    """A node is put where it is refused by the core, as below itself."""
+    """A node is inserted in a place that the core refuses, as below itself."""
     return command[0] in WITH_CHILD and reply is not None and reply.get("error") == "HierarchyRequestError"
 
 

@@ -1,4 +1,4 @@
-"""The faults of the reports, each as a text that its maintainers' tracker takes: a title, a script that runs by itself, what it prints and what is due."""
+"""The faults of the reports, each as text for its maintainers' tracker: a title, and a script that runs by itself, with its output and the expected one."""
 import os
 import re
 from collections import namedtuple
@@ -21,7 +21,7 @@ class Fault(namedtuple("Fault", "heading title words language opening code")):
 
 
 def faults_of(name):
-    """Returns the faults that a report tells, in its order; what it tells as no fault is left out."""
+    """Returns the faults of a report, in its order, without the paragraphs that are about no fault."""
     with open(os.path.join(FOLDER, f"{name}.md"), encoding="utf-8") as file:
         text = file.read()
     heading = text.splitlines()[0].removeprefix("# ").removesuffix(" beside the DOM Standard")

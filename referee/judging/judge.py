@@ -7,8 +7,8 @@ from judging.commands import COMMANDS, TELLS_ITSELF
 # The turns up to the one that differs, and what the player replied to that one.
 Difference = namedtuple("Difference", "turns told")
 
-# How far a stream was compared: the difference at which it ended, if it ended there, the place of the command without which the rest can be compared,
-# and how many replies were; neither of the first two if all were.
+# How far a stream was compared. `difference` is the one at which the comparison ended, or None. `place` is the place of the command without which the
+# rest can be compared, or None if all replies were. `replies` is the number of compared replies.
 Compared = namedtuple("Compared", "difference place replies")
 
 # A kind of difference as a stream is shrunk: the last command that changed something, the one whose reply differs, and the forms of both replies.
@@ -23,12 +23,12 @@ NAMELESS = "*"
 
 
 def form_of(reply):
-    """What a reply is by its form: ok, the name of a refusal, or what became of a player that gave none."""
+    """Returns the form of a reply: ok, the name of a refusal, or the fault of a player that gave none."""
     return "ok" if "ok" in reply else reply.get("error") or reply.get("fault")
 
 
 def same(due, told):
-    if due is told:
+    if told is due:
         return True
     if "ok" not in due or "ok" not in told:
         return form_of(due) == form_of(told) or (told.get("error") == NAMELESS and "error" in due)
@@ -41,7 +41,7 @@ def changes(turn):
 
 
 def cause_place(turns, told):
-    """The place of the command that the difference comes from, as far as can be told: the last one that changed something."""
+    """Returns the likely place of the command that the difference comes from: the last one that changed something."""
     last = len(turns) - 1
     if changes(turns[last]) or form_of(turns[last].reply) != form_of(told):
         return last
@@ -49,7 +49,7 @@ def cause_place(turns, told):
 
 
 def cause_of(turns, told):
-    """The name of that command."""
+    """Returns the name of the command that the difference likely comes from."""
     return turns[cause_place(turns, told)].command[0]
 
 
@@ -59,13 +59,13 @@ def key_of(difference):
 
 
 def object_of(command):
-    """The kind and the number of the iterator or walker that a command is about; None for other commands."""
+    """Returns the kind and the number of the iterator or walker that a command is about; None for other commands."""
     kind = OF_TRAVERSAL.get(command[0])
     return kind and (kind, command[1])
 
 
 def filtered_objects(turns):
-    """The iterators and walkers of a stream that have a filter."""
+    """Returns the iterators and walkers of a stream that have a filter."""
     made = [it for it in turns if it.command[0] in ("createIterator", "createWalker") and "ok" in it.reply and it.command[3]]
     return {(COMMANDS[it.command[0]].makes, it.reply["ok"]) for it in made}
 

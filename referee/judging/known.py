@@ -1,10 +1,15 @@
-"""Differences that are known, each with its reason: a file of entries, and which of them a shrunk case is.
+"""Known differences, each with its reason: a file of entries, and the search for the entry of a shrunk case.
 
-An entry is an object: `name`; `players` (names); `cause`, which names a function of judging.causes over the stream and both sides' answers; `of`, the
-commands that the difference may come from, where a missing list stands for all; `why`; and `reason`, which says it in a sentence. Which command shows
-the difference is not asked. `why` is `ours` (a rule of this core's own profile), `letter` (the standard's text, of another time or where it is open),
-`fault` (of the player) or `choice` (what the player's own documentation says). `hangs` names a rule of judging.hanging, if the player does not come
-back from the command; `around` names a fault that the player's adapter can play around, once it was shown.
+An entry is an object. The command that shows the difference does not matter. Its members:
+
+- `name`, and `players`, a list of names
+- `cause`: names a function of judging.causes over the stream and both sides' replies
+- `of`: the commands that the difference may come from; all if it is missing
+- `why`: `ours` (a rule of this core's own profile), `letter` (another or an open text of the standard), `fault` (of the player) or `choice` (by the
+  player's own documentation)
+- `reason`: a sentence
+- `hangs`: names a rule of judging.hanging, if the player never replies to the command
+- `around`: names a fault that the player's adapter can play around, once it was shown
 """
 import json
 import os
@@ -20,7 +25,7 @@ MEMBERS = {"name", "players", "cause", "of", "why", "reason", "hangs", "around"}
 
 
 def read_known(path):
-    """The entries of a file."""
+    """Returns the entries of a file."""
     with open(path, encoding="utf-8") as file:
         found = json.load(file)
     for it in found:
@@ -35,10 +40,10 @@ def read_known(path):
 
 
 def entry_of(known, player, shown):
-    """The first entry that a difference is; None where it is new."""
+    """Returns the first entry that fits a difference, or None if it is new."""
     return next((it for it in known if player in it["players"] and holds(it, shown)), None)
 
 
 def entry_of_case(known, player, judge, case):
-    """The same of a case that was kept."""
+    """Returns the first entry that fits a kept case, or None if it is new."""
     return entry_of(known, player, Shown(judge, case.difference(), case.moments))

@@ -1,23 +1,24 @@
-"""What stands after each command of a case, by the core and by the player: trees, each node's neighbours and children, ends of ranges, places of
-iterators and walkers, and the records that the command queued. The first moment at which the two differ is where a difference comes from, whichever
-command shows it.
+"""The states after each command of a case, of the core and of the player.
+
+A state has the trees, each node's neighbours and children, the ends of ranges, the places of iterators and walkers, and the records that the command
+queued. A difference comes from the first moment at which the two states differ, whichever command shows it.
 """
 from judging.commands import COMMANDS, DOCUMENT, FRAGMENT, PARENTS
 from judging.core import Turn
 
 MOST_TREES, MOST_NODES = 8, 12
-# Behind so many of the last commands is looked first.
+# The number of last commands whose moments are compared first.
 LAST = 4
-# Of what a node is told to be, where it stands.
+# The members of a node's reply that are its place.
 PLACES = ("parent", "previous", "next")
 
-# What an adapter tells for a node that has no number there.
+# An adapter's word for a node that has no number there.
 NUMBERLESS = "a node without a number"
 
 
 def questions_of(core):
-    """Questions that show all ranges, iterators, walkers and new records, all trees but empty Documents and fragments in which no range stands, and
-    where the first nodes stand.
+    """Returns questions that show all ranges, iterators, walkers and new records, the places of the first nodes, and all trees. Empty Documents and
+    fragments without ends of ranges are left out.
     """
     ranges = [["range", it] for it in range(core.next["range"])]
     ends = {node for it in ranges for node in (core.ask(*it) or [])[::2]}
@@ -36,8 +37,8 @@ def may_change(command):
 
 
 def asked_between(core, commands, first=0):
-    """The turns of commands, with questions behind each from the first place on that may change something; and of each of these questions its place
-    and its command's.
+    """Returns the turns of commands. From the first place on, questions follow each command that may change something. For each question it also returns
+    its place and its command's.
     """
     turns, places = [], []
     for at, command in enumerate(commands):
@@ -49,8 +50,8 @@ def asked_between(core, commands, first=0):
 
 
 def moments_of(judge, commands, first=0):
-    """Of each command that may change something its place, and all questions behind it with both replies; a player that does not answer tells none.
-    Nothing is asked behind commands ahead of the first place.
+    """Returns for each command that may change something its place, and all questions behind it with both replies. If the player does not answer, its
+    replies are skips. Nothing is asked behind commands ahead of the first place.
     """
     with judge.core() as core:
         turns, places = asked_between(core, commands, first)
@@ -63,7 +64,7 @@ def moments_of(judge, commands, first=0):
 
 
 def last_moments(judge, difference):
-    """The moments behind the last commands of a difference; none if it may come from one before them."""
+    """Returns the moments behind the last commands of a difference, or None if it may come from one before them."""
     turns = difference.turns[: len(difference.turns) - ("fault" in difference.told)]
     changing = [at for at, it in enumerate(turns) if may_change(it.command)]
     first = changing[-LAST] if len(changing) > LAST else 0
@@ -72,7 +73,7 @@ def last_moments(judge, difference):
 
 
 def alike(due, told):
-    """Whether two answers are the same but for nodes that have no number there."""
+    """Returns whether two answers are the same but for nodes that have no number there."""
     if told == NUMBERLESS:
         return isinstance(due, int)
     if isinstance(due, list) and isinstance(told, list):
@@ -83,30 +84,30 @@ def alike(due, told):
 
 
 def apart(asked):
-    """The questions of a moment whose replies differ."""
+    """Returns the questions of a moment whose replies differ."""
     return [it for it in asked if "skip" not in it[2] and not alike(answer_in(it[0], it[1]), answer_in(it[0], it[2]))]
 
 
 def answer_in(question, reply):
-    """The answer that a reply gives; of a node where it stands, since what else it is told to be shows whenever it is asked."""
+    """Returns the answer of a reply, or for a node its place alone. Its other members show whenever the node is asked for."""
     answer = reply.get("ok")
     return [answer.get(it) for it in PLACES] if question[0] == "node" and isinstance(answer, dict) else answer
 
 
 def place_of(moments, last):
-    """The place of the command that a difference comes from: the first after which the two differ, or the last."""
+    """Returns the place of the command that a difference comes from: the first after which the two differ, or the last."""
     return next((at for at, asked in moments if apart(asked)), last)
 
 
 def state_of(asked, side):
-    """The trees and ranges of a moment, as it is due (1) or told (2), for pictures and by number."""
+    """Returns the trees and ranges of a moment for pictures, by the core's replies (1) or the player's (2)."""
     answers = [(it[0], it[side].get("ok")) for it in asked]
     trees = [answer for question, answer in answers if question[0] == "tree" and answer and all(isinstance(it[1], int) for it in answer)]
     return {"trees": trees, "ranges": [[question[1], answer] for question, answer in answers if question[0] == "range" and answer]}
 
 
 def states_of(moments, place):
-    """The three states of a case: before the command that it comes from, and after it, as it is due and as the player tells it."""
+    """Returns the three states of a case: before the command that it comes from, and after it in the core and in the player."""
     before = next((asked for at, asked in reversed(moments) if at < place), [])
     after = next((asked for at, asked in reversed(moments) if at <= place), [])
     return {"before": state_of(before, 1), "due": state_of(after, 1), "told": state_of(after, 2)}

@@ -1,7 +1,7 @@
 """A page of a browser as a player: it takes streams from a small server of this machine, and gives replies back.
 
-A browser that has a name is started without a window, with a profile of its own, and ended with the player. Without a name the address is told,
-and any browser of this machine may open it.
+A browser that has a name is started without a window, with a profile of its own, and ended with the player. Without a name the address is printed, and
+any browser of this machine may open it.
 """
 import http.server
 import json
@@ -81,7 +81,7 @@ class Server(http.server.ThreadingHTTPServer):
         pass
 
     def ask(self, lines, seconds):
-        """The replies of the page to lines, which are JSON texts."""
+        """Returns the page's replies to lines, which are JSON texts."""
         self.streams.put(json.dumps(lines).encode())
         try:
             return json.loads(self.replies.get(timeout=seconds))
@@ -95,7 +95,7 @@ def version_of(path):
 
 
 class Page:
-    """The same interface as other players have; judging.players tells of it."""
+    """A browser's page, with the interface of other players (judging.players)."""
 
     def __init__(self, browser, seconds):
         from judging.players import NotThere, Player
@@ -153,7 +153,7 @@ class Page:
         return [it for it in found if it[0] is not None]
 
     def one_by_one(self, lines):
-        """The replies to a stream that did not come back, each line given by itself in a new page, so that the one at which it ends is known."""
+        """Plays a stream without replies anew in a new page, line by line, so that the line at which it ends is known. Returns the replies."""
         self.open()
         told = []
         for line in lines:

@@ -1,4 +1,4 @@
-"""Trees as pictures (SVG), with the ends of ranges drawn into the gaps where they stand: a box holds its children, a Text its units."""
+"""Trees as pictures (SVG), with the ends of ranges drawn into their gaps. A box holds its children, and a Text its units."""
 from html import escape
 
 GAP, UNIT, HEAD, ROW = 12, 13, 18, 26
@@ -14,7 +14,7 @@ class Node:
 
 
 def tree_of(rows):
-    """The top node of rows that stand in tree order."""
+    """Returns the top node of rows in tree order."""
     path = []
     for row in rows:
         node = Node(row)
@@ -26,7 +26,7 @@ def tree_of(rows):
 
 
 def units_of(data):
-    """What is shown of each unit."""
+    """Returns the picture's text for each unit."""
     if isinstance(data, list):
         return [f"{it:04x}" for it in data]
     return [it for character in data for it in ([character] if ord(character) < 65536 else [character, "\u00b7"])]
@@ -42,7 +42,7 @@ class Picture:
         return f"{node.number} {node.name}"
 
     def gap(self, node, offset, x, y, height):
-        """The marks in a gap of a node."""
+        """Draws the marks in a gap of a node."""
         here = [(number, side) for number, sides in self.ends for side, point in sides if point == (node.number, offset)]
         for at, (number, side) in enumerate(here):
             colour = COLOURS[number % len(COLOURS)]
@@ -88,7 +88,7 @@ class Picture:
 
 
 def picture_of(state):
-    """An SVG of a state: its trees beside each other, and the ends of its ranges. Ends that stand in none of them are told below."""
+    """Returns an SVG of a state: its trees beside each other, and the ends of its ranges. Ends in none of the trees are not drawn."""
     ends = [(number, (("start", (it[0], it[1])), ("end", (it[2], it[3])))) for number, it in state["ranges"] if it]
     picture, x, lowest = Picture(ends), 6, 0
     for rows in state["trees"]:

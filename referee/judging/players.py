@@ -1,4 +1,4 @@
-"""Players: what answers the lines, how it is started, and which lines it is given."""
+"""Players, which reply to lines: how each is started, and which lines it is given."""
 import json
 import os
 import shlex
@@ -17,36 +17,40 @@ MODULES = "/usr/share/nodejs"
 LIBRARY = os.path.join(ROOT, "bindings/c/out")
 PROGRAM = os.path.join(ROOT, "crates/domserve/out/domserve")
 
-# Refusals of surroundContents that stand ahead of its first step. Behind any other the standard has done what comes before it, and this profile nothing.
+# Refusals of surroundContents ahead of its first step. At any other the standard has done the steps before it, and this profile has changed nothing.
 AHEAD_OF_STEPS = {"InvalidStateError", "InvalidNodeTypeError"}
-# Refusals that an adapter to the standard's interfaces can't give: of a line's form, of numbers, and of this profile's own commands.
+# Refusals that an adapter of the standard's interfaces can't give: of a line's form, of numbers, and of this profile's own commands.
 NOT_OF_THE_STANDARD = {"line-too-long", "bad-json", "bad-command", "bad-arguments", "no-such-object", "limit", "in-use", "out-of-memory"}
 
 
 class NotThere(Exception):
-    """A player that this machine has not."""
+    """A player is not installed."""
 
 
 def told_by(line, turn):
-    """The reply that a line is; where it is the due one to the byte, that itself, which saves reading it."""
+    """Returns a line's reply. A line that equals the expected reply to the byte is not parsed."""
     return turn.reply if line == line_of(turn.reply) else read_reply(line)
 
 
 def is_for_adapters(turn):
-    """Whether a line can be given to an adapter: whatever it refuses for kinds alone has changed nothing, so it can be left out."""
+    """Returns whether a line can be given to an adapter. A line refused for kinds alone has changed nothing, so it can be left out."""
     refused = turn.reply.get("error")
     return refused not in NOT_OF_THE_STANDARD and (refused != "TypeError" or turn.command[0] == "observe")
 
 
 class Player:
-    """What all players have. `serves` are the commands that it has, or None for all; `itself` is what its adapter does by itself, `ours` whether it is a
-    library of this project, and `seconds` how long a reply may take.
+    """The interface of all players.
+
+    - `serves`: the commands that it has, or None for all
+    - `itself`: its adapter's own work
+    - `ours`: whether it is a library of this project
+    - `seconds`: how long a reply may take
     """
 
     name, version, serves, itself, ours, seconds = "player", "", None, [], False, 10.0
-    # What the words of the command line call it.
+    # Its name by the words of the command line.
     called = None
-    # Whether it numbers by place what a command makes inside, and whether a Document of its has children.
+    # Whether it numbers by place the nodes that a command makes inside, and whether its Documents have children.
     numbers, documents = False, True
     # The known hangs, the faults that its adapter can play around, those of them that it does now, and how its own users get a document.
     hanging, can_go_around, around, opened = Hanging(), (), (), None
@@ -59,7 +63,7 @@ class Player:
         self.opened = told.get("opened")
 
     def lines(self, turns):
-        """The lines for a world of its own, and of each the place of its turn, or None where its reply tells nothing."""
+        """Returns the lines for a new world, each with the place of its turn, or None if its reply is not compared."""
         found = [(None, {"world": {"around": sorted(self.around)} if self.around else {}})]
         for at, turn in enumerate(turns):
             if self.numbers and not is_for_adapters(turn):
@@ -72,18 +76,18 @@ class Player:
         return found
 
     def parts_at(self, turn):
-        """Whether the standard has done a part of a command that is refused as a whole here: what comes behind it is played on two different worlds."""
+        """Returns whether the standard does a part of a command that is refused as a whole here. The two worlds differ after such a command."""
         refused = turn.command[0] == "surroundContents" and turn.reply.get("error", "InvalidStateError") not in AHEAD_OF_STEPS
         return refused and self.numbers and not self.ours
 
     def fault_at(self, given, count, fault):
-        """A fault in the place of a reply, of which there are `count` already: the place of its turn, and what is told."""
+        """Returns the place of the turn at which a fault is in place of a reply, after `count` replies, and the fault."""
         places = [at for at, _ in given if at is not None]
         return next((at for at, _ in given[count:] if at is not None), places[-1] if places else 0), fault
 
 
 class Spoken(Player):
-    """A process that says hello and begins a world where it is told to."""
+    """A process that replies to hello, and begins a world at the line for that."""
 
     def __init__(self, words, seconds, environment=None, name=None, ours=False):
         self.words, self.seconds, self.environment = words, seconds, environment
@@ -123,7 +127,7 @@ class Spoken(Player):
 
 
 class Program(Player):
-    """A process that knows nothing but lines: it is started anew for each world."""
+    """A process that knows only commands: it is started anew for each world."""
 
     def __init__(self, words, seconds, name=None):
         self.words, self.seconds = words, seconds
@@ -146,7 +150,7 @@ class Program(Player):
 
 
 def says_hello(words, seconds):
-    """Whether a process answers hello by telling what it is."""
+    """Returns whether a process replies to hello with its name as a player."""
     try:
         process = Lines(words, seconds)
     except OSError as fault:
@@ -166,12 +170,12 @@ def of_words(words, seconds, name=None):
 
 
 def modules_of_node():
-    """Where modules of node are looked for besides node's own places: NODE_PATH, and where Debian has them."""
+    """Returns the folders besides node's own in which modules are searched: NODE_PATH, and Debian's."""
     return os.pathsep.join(it for it in (os.environ.get("NODE_PATH"), MODULES) if it)
 
 
 def of_node(module, name=None, ours=False):
-    """A module of node, which is looked for as node does, by NODE_PATH, and where Debian has them."""
+    """Returns the maker of a player for a module of node. The module is searched as node does, in NODE_PATH, and in Debian's folder."""
 
     def made(given):
         if not shutil.which("node"):
@@ -185,12 +189,12 @@ def of_node(module, name=None, ours=False):
 
 
 def pythons():
-    """The interpreters that may have a module of Debian's."""
+    """Returns the interpreters that may have a module of Debian's."""
     return dict.fromkeys(it for it in (sys.executable, "/usr/bin/python3") if it and os.access(it, os.X_OK))
 
 
 def of_python(script, *needs):
-    """A player in Python, by the first interpreter that has the modules."""
+    """Returns the maker of a player in Python, which runs by the first interpreter that has the modules."""
 
     def made(given):
         for python in pythons():
@@ -211,7 +215,7 @@ def of_rust(given):
     words = ["cargo", "build", "--quiet", "--offline", "--release"]
     built = subprocess.run(words, cwd=folder, env=environment, stdout=subprocess.PIPE, stderr=subprocess.STDOUT, text=True, check=False)
     if built.returncode:
-        why = next((it for it in built.stdout.splitlines() if it.startswith("error")), "no reason was told")
+        why = next((it for it in built.stdout.splitlines() if it.startswith("error")), "it gave no reason")
         raise NotThere(f"cargo can't build the player in Rust: {why}")
     return Spoken([os.path.join(folder, "target/release/player")], given.seconds, environment)
 
@@ -249,7 +253,7 @@ BY_NAME = {
 
 
 def player_of(given):
-    """The player that the words name: one of the list, `node:MODULE`, or any command line."""
+    """Returns the player that the words name: one of the list, `node:MODULE`, or any command line."""
     if given.command:
         return of_words(shlex.split(given.command), given.seconds, None if given.player == "player" else given.player)
     if given.player.startswith("node:"):

@@ -1,4 +1,4 @@
-"""A stream beside a player to its end: what differs is left out, or played around, and the rest is compared."""
+"""A stream beside a player to its end: differing commands are left out, or played around, and the rest is compared."""
 from judging.commands import COMMANDS
 from judging.streams import play_steps, steps_of
 
@@ -17,7 +17,7 @@ class Stream:
         judge.player.around = ()
 
     def compare(self):
-        """Compares the stream as it stands now, from where it was compared already."""
+        """Compares the present stream, from the place up to which it was compared already."""
         if self.replies is None:
             self.replies, self.at, self.played = self.judge.player.replies(self.turns), 0, self.played + 1
             self.passed = set()
@@ -26,11 +26,11 @@ class Stream:
         return found._replace(difference=found.difference and self.without_passed(found.difference))
 
     def without_passed(self, difference):
-        """A difference whose stream has none of the questions that were passed over."""
+        """Returns a difference without the questions that were passed over."""
         return difference._replace(turns=[it for at, it in enumerate(difference.turns) if at not in self.passed])
 
     def pass_over(self, difference, case):
-        """Goes on behind a question whose reply alone differs; returns whether it is one."""
+        """Passes over a question if only its reply differs. Returns whether it does."""
         last = difference.turns[-1].command[0]
         is_question = last in COMMANDS and not COMMANDS[last].changes and "fault" not in difference.told
         if not is_question or not case.again or case.place != len(case.commands) - 1:
@@ -39,7 +39,7 @@ class Stream:
         return True
 
     def go_around(self, name):
-        """Has the adapter play around a fault; returns whether it does so from now on."""
+        """Has the adapter play around a fault. Returns whether it does so from now on."""
         player = self.judge.player
         if not name or name in player.around or name not in player.can_go_around:
             return False
@@ -47,7 +47,7 @@ class Stream:
         return True
 
     def leave_out(self, place):
-        """Leaves out the command at a place, and those that name what it made; returns whether anything is left to be compared."""
+        """Leaves out the command at a place, and those that name its objects. Returns whether anything is left to compare."""
         if self.played >= MOST:
             return False
         steps = self.steps or steps_of(self.turns)

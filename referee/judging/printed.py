@@ -1,4 +1,4 @@
-"""Replies as the script of a case prints them: nodes by their names there, and each answer in the form that its call returns."""
+"""Replies in the form that the script of a case prints: nodes by their names there, and each answer as its call returns it."""
 import json
 import re
 
@@ -20,7 +20,7 @@ def number_like(value):
 
 
 def nodes_in(command, reply):
-    """The numbers of nodes in a reply."""
+    """Returns the numbers of nodes in a reply."""
     answer, name = reply.get("ok"), command[0]
     if name in NODE:
         found = [answer]
@@ -44,13 +44,13 @@ def records_in(name, answer):
 
 
 class Printed:
-    """What the last line of a script prints. `made` are the numbers of the nodes that have names."""
+    """The output of a script's last line. `made` are the numbers of the nodes that have names."""
 
     def __init__(self, command, made):
         self.name, self.made = command[0], made
 
     def form(self, reply):
-        """Returns what is printed, as text; a reply that never comes prints nothing."""
+        """Returns the printed text of a reply. A fault prints nothing, and the text says why."""
         if "fault" in reply:
             return {"hung": "nothing: it never comes back", "died": "nothing: it ends"}.get(reply["fault"], "nothing")
         if "error" in reply:
@@ -115,12 +115,12 @@ class Printed:
 
 
 def text_of(value):
-    """A text of a reply, which is a list of units if it is not well-formed."""
+    """Returns a text of a reply, which is a list of units if it is not well-formed."""
     units = isinstance(value, list) and value and all(map(number_like, value))
     return b"".join(it.to_bytes(2, "little") for it in value).decode("utf-16-le", "surrogatepass") if units else value
 
 
 def written(value):
-    """A value as JSON.stringify writes it."""
+    """Returns a value as JSON.stringify writes it."""
     found = json.dumps(value, separators=(",", ":"), ensure_ascii=False)
     return re.sub("[\ud800-\udfff]", lambda it: f"\\u{ord(it[0]):04x}", found)

@@ -1,4 +1,4 @@
-"""A process that is spoken to by lines: one reply a line, and a time by which a reply has to come."""
+"""A process that replies to lines: one reply for each, within a time limit."""
 import itertools
 import json
 import os
@@ -9,7 +9,7 @@ import time
 
 
 class Fault(Exception):
-    """Why a reply is no reply: the process died, hung, or printed something else. `said` is what is known of it."""
+    """A reply is missing: the process died, hung, or printed something else. `said` describes it."""
 
     kind = "fault"
 
@@ -18,7 +18,7 @@ class Fault(Exception):
         self.said = said
 
     def told(self):
-        """What stands in the place of a reply."""
+        """Returns the fault in the place of a reply."""
         return {"fault": self.kind, "said": self.said}
 
 
@@ -40,9 +40,9 @@ WRITTEN = json.JSONEncoder(separators=(",", ":")).encode
 
 
 class Lines:
-    """A process of its own group, so that what it starts ends with it."""
+    """A process of its own group, so that the processes that it starts end with it."""
 
-    # What may wait in a pipe without being read.
+    # The bytes that may wait in a pipe without being read.
     PIECE = 32768
 
     def __init__(self, words, seconds=10.0, environment=None, folder=None):
@@ -63,7 +63,7 @@ class Lines:
             raise Died(self.ending()) from None
 
     def receive(self, seconds=None):
-        """The next line."""
+        """Returns the next line."""
         seconds = seconds or self.seconds
         limit = time.monotonic() + seconds
         while not self.lines:
@@ -92,7 +92,7 @@ class Lines:
         return self.receive(seconds)
 
     def ask_all(self, lines, waits=None):
-        """Yields the replies to all lines, handed over in pieces that no pipe is too small for. `waits` are the seconds of each reply."""
+        """Yields the replies to all lines, which are written in pieces that fit into any pipe. `waits` are the seconds of each reply."""
         size, pending = 0, []
         for line, seconds in zip(lines, waits or itertools.repeat(self.seconds)):
             if pending and size + len(line) >= self.PIECE:
@@ -109,7 +109,7 @@ class Lines:
             yield self.receive(seconds)
 
     def end(self):
-        """Ends the process and what it started."""
+        """Ends the process and those that it started."""
         self.ready.close()
         try:
             os.killpg(self.process.pid, signal.SIGKILL)
@@ -121,7 +121,7 @@ class Lines:
 
 
 def read_reply(line):
-    """A reply: an object with ok, error or skip."""
+    """Returns a reply: an object with ok, error or skip."""
     try:
         reply = json.loads(line.decode())
     except ValueError:

@@ -1,4 +1,7 @@
-"""The page of a run: faults first, those that most streams show ahead, each by its code, what that prints and what is due; then what is no fault."""
+"""The page of a run: new differences and faults first, ordered by the streams that show them, then differences that are no faults.
+
+Each has its code, the output, and the expected one.
+"""
 import json
 from html import escape
 
@@ -17,7 +20,7 @@ figure { display: inline-block; margin: .5em 1em .5em 0; vertical-align: top } f
 """
 NEW = "new"
 BROWSERS = ("chromium", "firefox", "page")
-# The chapters of a page: of which cases each is, its heading, and a line below it.
+# The chapters of a page: the kinds of its cases, its heading, and a line below it.
 CHAPTERS = (
     ((NEW,), "New", "No known difference fits: to be judged by the standard's text."),
     (("fault",), "Faults", ""),
@@ -59,7 +62,7 @@ def pictures_of(case, why):
 
 
 def code_of(case, why, opened, player):
-    """The script of a case, what it prints and what is due, with the section that says so."""
+    """Returns the script of a case, its output and the expected one, with a link to the standard's section."""
     code, told, due = snippet_of(case, opened)
     name, address = section_of(case.key["cause"], case.key["shows"])
     says = "the standard says" if why == "fault" else "this core says"
@@ -78,7 +81,7 @@ def others_of(cases):
 
 
 def section(name, cases, entry, told):
-    """A difference: the shortest of its cases whole, of the others the commands."""
+    """Returns the section of a difference: the shortest of its cases whole, and the others' commands."""
     first, *others = sorted(cases, key=lambda it: (len(it.commands), len(it.name())))
     again = "" if all(it.again for it in cases) else '<p class="new">It did not come again when the same stream was played anew.</p>'
     parts = [f'<h3>{escape(name)}: {counted(streams_of(cases, told), "stream")}</h3>', f"<p>{escape(entry['reason'])}</p>" if entry else "", again]
@@ -90,12 +93,12 @@ def section(name, cases, entry, told):
 
 
 def group_of(case):
-    """The difference that a case is one of: a known one, or those that look the same."""
+    """Returns the name of a case's group: its known difference, or the title of cases that look the same."""
     return case.known or title(case)
 
 
 def streams_of(cases, told):
-    """How many streams show a difference."""
+    """Returns the number of streams that show a difference."""
     return told.get("streams by difference", {}).get(group_of(cases[0])) or sum(it.count for it in cases)
 
 
@@ -121,7 +124,7 @@ def head(told, cases, known):
 
 
 def compared_of(told):
-    """How many replies were compared, by command: up to the first difference of each stream, and with what was played on behind it."""
+    """Returns a table of the compared replies by command: up to the first difference of each stream, and in all."""
     first, whole = told.get("up to the first difference", {}), told.get("compared by command", {})
     rows = "".join(f"<tr><td>{escape(name)}</td><td>{first.get(name, 0):,}</td><td>{count:,}</td></tr>" for name, count in whole.items())
     heads = "<tr><th>command</th><th>up to the first difference</th><th>in all</th></tr>"

@@ -1,4 +1,4 @@
-"""A run: streams one after another, what differs shrunk and kept, progress told, and a stop that keeps what was found."""
+"""A run: it plays streams one after another, shrinks and keeps the differences, and shows its progress. A stop keeps all that was found."""
 import json
 import signal
 import sys
@@ -17,15 +17,15 @@ from judging.shown import Shown
 from judging.shrink import shrunk
 
 TELLS_EACH = 2.0
-# Of differences whose first look is the same, so many are shrunk; of the rest each whose count is a power of two.
+# The number of differences with the same key that are shrunk; of later ones each whose count is a power of two.
 SHRUNK = 2
-# Of a known difference so many cases are kept for each command that it comes from.
+# The number of cases that are kept of a known difference, for each command that it comes from.
 ENOUGH = 2
 
 
 @dataclass
 class Limits:
-    """When a run ends: after so many seconds, lines, streams or new differences."""
+    """The limits of a run: seconds, lines, streams and new differences. It ends at the first that it reaches."""
 
     seconds: float | None = None
     lines: int | None = None
@@ -38,7 +38,7 @@ class CoreFailed(Exception):
 
 
 class Stop:
-    """Ctrl-C and the signal to end set this; the run looks at it between streams."""
+    """A flag that Ctrl-C and the signal to end set. The run checks it between streams."""
 
     def __init__(self):
         self.asked = False
@@ -52,7 +52,7 @@ class Stop:
 
 
 def looked_at(judge, least, group="", seed=""):
-    """The case that a shrunk difference is, with what stands behind each of its commands; a line that never comes back is not played once more."""
+    """Returns the case of a shrunk difference, with the state behind each of its commands. A line without a reply is not played once more."""
     turns = least.difference.turns[: len(least.difference.turns) - ("fault" in least.difference.told)]
     moments = moments_of(judge, [it.command for it in turns])
     return case_of(least.difference, judge.player, group, seed, moments, least.again)
@@ -65,7 +65,7 @@ class Run:
         self.save = open(save, "w", encoding="utf-8") if save else None
         self.stop = Stop()
         self.begun = self.told = time.monotonic()
-        # Of each kind of difference how often it was seen, and the first case that it was shrunk to.
+        # For each kind of difference: how often it was seen, and the last case to which it was shrunk.
         self.seen, self.cases, self.differing = {}, {}, 0
         # The seeds of the streams that show each difference.
         self.first, self.shown = Counter(), {}
@@ -89,7 +89,7 @@ class Run:
             print(f"{self.seconds():7.1f} s: {self.line()}", file=sys.stderr, flush=True)
 
     def over(self):
-        """Why the run ends; None where it goes on."""
+        """Returns why the run ends, or None if it goes on."""
         limits, judge = self.limits, self.judge
         if self.stop.asked:
             return "it was stopped"
@@ -104,7 +104,7 @@ class Run:
     # streams
 
     def play(self, streams):
-        """Plays streams, each a group, a seed and a function that plays it to a core; ends at a limit or where they end."""
+        """Plays streams, each a group, a seed and a function that plays it to a core, up to a limit or to their end."""
         for group, seed, played in streams:
             over = self.over()
             if over:
@@ -126,7 +126,7 @@ class Run:
         self.compare(Stream(self.judge, turns), group, seed)
 
     def compare(self, stream, group, seed):
-        """Compares a stream to its end, whatever differs on the way."""
+        """Compares a stream to its end, through any differences."""
         before = Counter(self.judge.by_command)
         found = stream.compare()
         self.first.update(self.judge.by_command - before)
@@ -135,7 +135,7 @@ class Run:
             found = stream.compare()
 
     def goes_on(self, stream, found, group, seed):
-        """Looks at a difference, if there is one, and sees to it that the stream can be compared behind it; returns whether it can."""
+        """Handles a difference, if there is one, so that the rest of the stream can be compared. Returns whether it can."""
         if found.difference:
             case = self.look_at(found.difference, group, seed)
             around = next((it.get("around") for it in self.known if it["name"] == case.known), None)
@@ -144,7 +144,7 @@ class Run:
         return stream.leave_out(found.place)
 
     def look_at(self, difference, group, seed):
-        """Returns the case that a difference is; it is shrunk, unless many that look the same have been."""
+        """Returns the case of a difference. The difference is shrunk, unless many that look the same were."""
         key = key_of(difference)
         count = self.seen[key] = self.seen.get(key, 0) + 1
         if count <= SHRUNK or not count & (count - 1):
@@ -155,7 +155,7 @@ class Run:
         return case
 
     def one_of_enough(self, difference):
-        """Returns a case of the known difference that a difference is before it is shrunk, if there are enough of them."""
+        """Returns a case of the known difference that fits an unshrunk one, if there are enough cases of it."""
         apart = Judge(self.judge.cores, self.player)
         moments = last_moments(apart, difference)
         entry = None if moments is None else entry_of(self.known, self.player.name, Shown(apart, difference, moments))
@@ -166,7 +166,7 @@ class Run:
         return cases[0] if len(cases) >= ENOUGH else None
 
     def shrink(self, difference, group, seed):
-        """Returns the case that a difference is, which is kept if it is another one than those before."""
+        """Shrinks a difference and returns its case, which is kept if it is a new one."""
         apart = Judge(self.judge.cores, self.player)
         least = shrunk(apart, difference)
         case = self.found.case(least.difference)

@@ -1,4 +1,4 @@
-"""All short scenes of a kind, each as a stream: a small tree, what is done to it once, and questions that show all of it."""
+"""All short scenes of a kind, each as a stream: a small tree, one change of it, and questions that show all of it."""
 import itertools
 
 from judging.commands import MOVES
@@ -10,7 +10,7 @@ class Comment(str):
     """The data of a Comment."""
 
 
-# A tree is a name with children; a Text stands as its data.
+# A tree is a name with children; a Text is written as its data.
 TREES = (
     ("a", ["xy"]),
     ("a", ["x", "yz"]),
@@ -58,11 +58,11 @@ class Stage:
         return made
 
     def points(self):
-        """All boundary points in the nodes of the scene."""
+        """Returns all boundary points in the nodes of the scene."""
         return [(node, offset) for node in self.nodes for offset in range(self.core.ask("length", node) + 1)]
 
     def points_in(self, top):
-        """The boundary points in a node and below it, as they follow one another in the document."""
+        """Yields the boundary points in a node and its descendants, in their order in the document."""
         children = self.core.ask("children", top)
         for offset in range(self.core.ask("length", top) + 1):
             yield top, offset
@@ -70,14 +70,14 @@ class Stage:
                 yield from self.points_in(children[offset])
 
     def mark(self, top):
-        """A range at each point in a node and below it, and one between every two of them."""
+        """Makes a range at each point in a node and its descendants, and one between every two of them."""
         for start, end in itertools.combinations_with_replacement(self.points_in(top), 2):
             self.ranges.append(self.say("createRange", 0))
             self.say("setStart", self.ranges[-1], *start)
             self.say("setEnd", self.ranges[-1], *end)
 
     def observe(self, node):
-        """One observer told of all, one that is told no more than what happens to children of the node."""
+        """Makes two observers of a node: one of all changes in its subtree, one of changes of its children alone."""
         everything = {"childList": True, "attributes": True, "characterData": True, "subtree": True, "characterDataOldValue": True}
         for options in (everything, {"childList": True}):
             self.observers.append(self.say("createObserver"))
@@ -94,7 +94,7 @@ class Stage:
 
 
 def planted(tree):
-    """A stage with a tree under the Document, which is its first node."""
+    """Returns a function that makes a stage with a tree under the Document, its first node."""
 
     def made(core):
         stage = Stage(core)
@@ -226,7 +226,7 @@ def iterator_scenes(tree):
         yield f"{at}", played
 
 
-# What may stand under a Document, and what is put there: a maker with its words, and for a fragment what it holds.
+# The nodes that are inserted into a Document: a maker with its words, for a fragment the names of its children.
 PARTS = {
     "element": ("createElement", "e"),
     "text": ("createText", "t"),
@@ -252,7 +252,7 @@ def part(stage, name):
 
 
 def document_scenes(_):
-    """All Documents of up to three children, and each kind of node put in at each place or in the place of each child."""
+    """All Documents of up to three children, and each kind of node inserted at each place or in the place of each child."""
     kept = [it for length in range(4) for it in itertools.product(("element", "comment", "doctype"), repeat=length) if legal(it)]
     for at, (children, name, place) in enumerate(itertools.product(kept, PARTS, range(9))):
         kind, place = ("insertBefore", place) if place < 4 else ("replaceChild", place - 4) if place < 8 else ("replaceChildren", 0)
@@ -261,7 +261,7 @@ def document_scenes(_):
 
 
 def legal(children):
-    """Whether a Document can have these children, as far as the scene goes: at most one element and one doctype, which comes first."""
+    """Returns whether a Document of a scene can have these children: at most one element and one doctype, the doctype ahead of the element."""
     doctype = children.index("doctype") if "doctype" in children else -1
     element = children.index("element") if "element" in children else len(children)
     return children.count("element") < 2 and children.count("doctype") < 2 and doctype < element
@@ -297,7 +297,7 @@ KINDS = {
     "documents": (document_scenes, (None,)),
 }
 
-# What a kind's scenes can't be played without.
+# The commands without which a kind's scenes can't be played.
 NEEDS = {
     "ranges": {"createRange", "setStart", "takeRecords"},
     "normalize": {"normalize", "createText"},
@@ -310,7 +310,7 @@ NEEDS = {
 
 
 def scenes(kind):
-    """All scenes of a kind: a name and a function that plays the scene to a core."""
+    """Yields all scenes of a kind: a name and a function that plays the scene to a core."""
     make, trees = KINDS[kind]
     for at, tree in enumerate(trees):
         for name, played in make(tree):

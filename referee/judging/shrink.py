@@ -7,8 +7,8 @@ from judging.commands import COMMANDS
 from judging.judge import key_of
 from judging.streams import Made, play_commands, play_steps, steps_of
 
-# How long one stream may be worked on, and how many replies that never come it has time for besides. On a busy machine so many streams are tried all
-# the same, where none of them hangs.
+# The seconds for shrinking one stream, and the missing replies for whose waits it gets more time. On a busy machine TRIES streams are tried even after
+# that time, unless the difference is a hang.
 SECONDS = 8.0
 HANGS = 15
 TRIES = 200
@@ -48,7 +48,7 @@ class Shrinker:
         return time.monotonic() > self.limit and (self.tries >= TRIES or self.key.told == "hung")
 
     def shows(self, steps, any_cause=False):
-        """Whether the steps still show the difference; those are kept then. With any cause, what it comes from may be another command."""
+        """Returns whether the steps still show the difference, and keeps them if so. With `any_cause` it may come from another command."""
         if self.out_of_time():
             return False
         self.tries += 1
@@ -61,7 +61,7 @@ class Shrinker:
         return True
 
     def comes_again(self):
-        """Whether the whole stream shows the same reply once more."""
+        """Returns whether the whole stream shows the same reply once more."""
         self.limit += self.judge.player.seconds
         return self.shows(self.steps)
 
@@ -73,7 +73,7 @@ class Shrinker:
                 return
 
     def leave_out(self):
-        """Leaves out runs of steps, long ones first; what names what they made goes with them."""
+        """Leaves out runs of steps, long ones first, with the steps that name objects of theirs."""
         size = max(len(self.steps) // 2, 1)
         while size and not self.out_of_time():
             at = len(self.steps) - size
@@ -98,7 +98,7 @@ class Shrinker:
             yield step._replace(name=name, values=tuple(values(step.values)))
 
     def simpler_values(self, step):
-        """The step with one value of it put simpler."""
+        """Yields the step with one of its values simpler."""
         forms = COMMANDS[step.name].arguments if step.name in COMMANDS else ()
         for place, (form, value) in enumerate(zip(forms, step.values)):
             for simpler in self.simpler(form.rstrip("?"), value, step.key):
@@ -124,7 +124,7 @@ class Shrinker:
             yield from ({name: it for name, it in value.items() if name != left} for left in value)
 
     def other_objects(self, value, key):
-        """Objects of the same kind that were made sooner. The first Document is the first of all, so that no value comes again."""
+        """Yields objects of the same kind that were made sooner. The first Document is the first of all, so that no value recurs."""
         if not isinstance(value, Made):
             return
         if value.kind == "node":
@@ -137,7 +137,7 @@ class Shrinker:
                 yield Made(value.kind, step.key, 0)
 
     def makers_first(self):
-        """What makes single objects goes to the front, so that cases which are the same look the same."""
+        """Moves the commands that make single objects to the front, so that equal cases look the same."""
         makers = [it for it in self.steps[:-1] if it.name in MAKERS and not any(isinstance(value, Made) for value in it.values)]
         order = {it.key for it in makers}
         makers.sort(key=lambda it: (it.name != "createElement", it.name != "createText", it.name))
@@ -146,7 +146,7 @@ class Shrinker:
             self.shows(moved)
 
     def swap(self):
-        """Neighbours that may change their places stand in the order of their names."""
+        """Orders neighbouring commands by their names if they may change places."""
         for at in range(len(self.steps) - 2):
             first, second = self.steps[at : at + 2]
             if at + 2 < len(self.steps) and first.name not in MAKERS and (second.name, str(second.values)) < (first.name, str(first.values)):
@@ -167,7 +167,7 @@ class Shrinker:
 
 @contextmanager
 def hurried(player, hangs):
-    """While shorter streams are tried, any of which may never come back, a reply has a fifth of its time. Yields that time if the difference is a hang."""
+    """Gives each reply a fifth of its time while shorter streams are tried, since any may hang. Yields that time if the difference is a hang, or 0."""
     seconds = player.seconds
     player.seconds = max(min(seconds, 1.0), seconds / 5)
     try:
@@ -177,7 +177,7 @@ def hurried(player, hangs):
 
 
 def shrunk(judge, difference, seconds=SECONDS):
-    """The shortest stream that was found to show the same kind of difference; the stream as it is where that does not come again."""
+    """Returns the shortest found stream with the same kind of difference, or the stream as it is if the difference does not come again."""
     first = Shrinker(judge, difference, seconds)
     if not first.comes_again():
         return Shrunk(difference, first.tries, False)

@@ -1,4 +1,4 @@
-"""A case as a script in the standard's own calls, for the library's own environment, with what it prints and what is due."""
+"""A case as a script in the standard's own calls, for the library's own environment, with its output and the expected one."""
 import json
 import re
 
@@ -55,7 +55,7 @@ CALLS = {
     "notify": "await new Promise((resolve) => setTimeout(resolve))",
 }
 
-# What a script begins with: how nodes are printed, and what is used of the rest.
+# The beginning of a script: the printing of nodes, and those of the other helpers that it uses.
 SAY = f"""const names = new Map();
 const name = (it) => names.get(it) || {json.dumps(ANOTHER)};
 const say = (value) => console.log(JSON.stringify(value, (_, it) => (it === undefined ? null : it && it.nodeType ? name(it) : it)));"""
@@ -97,7 +97,7 @@ def argument(form, value):
 
 
 def call_of(command):
-    """A command as a call of the standard's interfaces."""
+    """Returns a command as a call of the standard's interfaces."""
     name, *values = command
     words = [argument(form, value) for form, value in zip(COMMANDS[name].arguments, values)]
     if name == "replaceChildren" and values[1] is None:
@@ -112,7 +112,7 @@ def call_of(command):
 
 
 def made_line(command, reply):
-    """The line that a command is; what it makes gets a name with its number."""
+    """Returns the script's line for a command. The made object gets a name with its number."""
     makes, answer = COMMANDS[command[0]].makes, reply.get("ok")
     if makes == "observer":
         return f"const o{answer} = new MutationObserver((records) => say([{answer}, records.map(record)]));"
@@ -123,7 +123,7 @@ def made_line(command, reply):
 
 
 def inner_lines(places, made, used):
-    """Names for nodes that a command made inside, if they are used later."""
+    """Returns lines that name nodes which a command made inside, if they are used later."""
     found = []
     for top, numbers in places:
         for at, number in enumerate(numbers):
@@ -145,7 +145,7 @@ def naming(made):
 
 
 def body_of(case, made):
-    """The lines of a case but for the last one. `made` gets the numbers of the nodes that have names."""
+    """Returns the lines of a case but for the last one. `made` gets the numbers of the nodes that have names."""
     used = used_nodes(case.commands) | nodes_in(case.commands[-1], case.replies[-1]) | nodes_in(case.commands[-1], case.told)
     lines = [f"const n0 = {CALLS['newDocument']};"]
     for command, reply, places in zip(case.commands[:-1], case.replies, case.places):
@@ -159,7 +159,7 @@ def body_of(case, made):
 
 
 def asked_line(command):
-    """The last line, whose reply differs."""
+    """Returns the last line, whose reply differs."""
     call = call_of(command) if command[0] != "createObserver" else "new MutationObserver(() => {})"
     if command[0] == "notify":
         return f"{call};"
@@ -168,7 +168,7 @@ def asked_line(command):
 
 
 def opening(case, opened):
-    """How a user of the library gets at its document: a module of node as `require` gives it, or the page itself."""
+    """Returns the lines that open the library's document for its users: by `require` for a module of node, none for a page."""
     if not opened:
         return []
     module = re.search(r'require\("([^"]*)"\)', opened)
@@ -179,7 +179,7 @@ def opening(case, opened):
 
 
 def snippet_of(case, opened=None):
-    """Returns the whole script of a case, and the printed forms of the last reply: as it is told, and as it is due."""
+    """Returns the whole script of a case, and the printed forms of the last reply: the player's, and the expected one."""
     made = {0}
     lines = body_of(case, made)
     asked, printed = asked_line(case.commands[-1]), Printed(case.commands[-1], made)

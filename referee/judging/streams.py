@@ -1,23 +1,23 @@
-"""Streams as steps whose objects are told by the step that made them, so that a step can be left out and the rest still says what it said."""
+"""Streams as steps, which name objects by the steps that made them, so that a step can be left out without changing the others' meaning."""
 from collections import namedtuple
 
 from judging.commands import COMMANDS, kind_of
 
-# An object: which of those that a step made.
+# An object, as one of those that a step made.
 Made = namedtuple("Made", "kind step place")
 
-# A command whose arguments name objects by what made them. A step keeps its key when others go.
+# A command whose arguments name objects by the steps that made them. A step keeps its key when others are left out.
 Step = namedtuple("Step", "key name values")
 
 
 class Owners:
-    """Which step made an object."""
+    """The step that made each object."""
 
     def __init__(self):
         self.found = {}
 
     def add(self, key, name, turn):
-        """Adds what a step made; returns the number of each."""
+        """Adds the objects that a step made, and returns the number of each."""
         makes = COMMANDS[name].makes if name in COMMANDS else None
         if not makes or "ok" not in turn.reply:
             return {}
@@ -33,7 +33,7 @@ class Owners:
 
 
 def steps_of(turns):
-    """The steps of a stream that was played."""
+    """Returns the steps of a stream that was played."""
     owners, steps = Owners(), []
     for key, turn in enumerate(turns):
         name, *values = turn.command
@@ -46,7 +46,7 @@ def steps_of(turns):
 
 
 def play_steps(core, steps):
-    """Plays steps to a core. Those that name what was not made are left out. Returns the steps that were played, and their turns."""
+    """Plays steps to a core, without those that name missing objects. Returns the steps that were played, and their turns."""
     numbers, played, turns = {}, [], []
     owners = Owners()
     for step in steps:

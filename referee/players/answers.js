@@ -1,5 +1,5 @@
 // Answers the commands of docs/commands.md by the standard's interfaces of a window, for node and for pages.
-// What is done here and not by the window stands in `itself`, and what it says is never evidence.
+// `itself` lists the work of this adapter, which is not the window's and never evidence.
 "use strict";
 
 const itself = [
@@ -13,7 +13,7 @@ const itself = [
   "tells a DOMException by the standard's name for its code, where its name is another",
 ];
 
-// The objects of which a command needs a member, and that member where it has another name than the command.
+// The members that commands need, by the objects that have them. 0 is a member with the command's own name.
 const members = {
   document: {
     createElement: 0, createText: "createTextNode", createComment: 0, createPI: "createProcessingInstruction", createFragment: "createDocumentFragment",
@@ -48,7 +48,7 @@ const names = {
   15: "InvalidAccessError", 24: "InvalidNodeTypeError",
 };
 
-// Past so many nodes a tree is taken for one that has itself below itself.
+// A tree with more nodes is taken for one that contains itself.
 const MOST = 2000;
 
 class Skipped extends Error {}
@@ -57,7 +57,7 @@ class Endless extends Error {
   name = "a tree without an end";
 }
 
-// What a call makes; nothing where it is refused or not there.
+// Returns the object that a call makes; undefined if the call is refused or missing.
 function tried(make) {
   try {
     return make() ?? undefined;
@@ -66,7 +66,7 @@ function tried(make) {
   }
 }
 
-// One object of each kind that `members` names, by a window; undefined where it has none.
+// Returns one object of a window for each kind that `members` names; undefined for a kind that it lacks.
 function samples(window) {
   const document = tried(() => window.document.implementation.createDocument(null, null));
   const element = tried(() => document.createElement("a"));
@@ -78,14 +78,14 @@ function samples(window) {
   };
 }
 
-// The commands that a window serves: each whose member is there.
+// Returns the commands that a window serves: each whose member exists.
 function served(window) {
   const here = samples(window);
   const has = (kind) => ([command, member]) => here[kind] && (member || command) in here[kind];
   return Object.entries(members).flatMap(([kind, wanted]) => Object.entries(wanted).filter(has(kind)).map(([command]) => command));
 }
 
-// Whether a filter is never asked, and the function acceptNode of the window in its place: so Debian's jsdom converts filters.
+// Returns whether a window calls its function acceptNode in place of a filter, as Debian's jsdom does.
 function asksTheWindow(window) {
   const document = tried(() => window.document.implementation.createDocument(null, null));
   const first = (filter) => tried(() => document.createNodeIterator(document, 4294967295, filter).nextNode());
@@ -96,13 +96,13 @@ function asksTheWindow(window) {
   return found;
 }
 
-// Calls a method of an object; where there is none, the command is not served there.
+// Calls a method of an object. If there is none, the command is not served there.
 function call(object, name, ...given) {
   if (typeof object[name] !== "function") throw new Skipped(`there is no ${name} here`);
   return object[name](...given);
 }
 
-// Returns what answers commands by the interfaces of the windows that `open` gives. A window serves some hundreds of worlds.
+// Returns a function that answers lines by the interfaces of the windows that `open` returns. A window serves some hundreds of worlds.
 function answering(open, named) {
   let window = open();
   const serving = new Set(served(window));
@@ -188,7 +188,7 @@ function answering(open, named) {
     return list.push(found) - 1;
   }
 
-  // A step; its filter is handed over by the window too, if that is asked in its place.
+  // Makes a step. If the window is asked in place of filters, it gets the filter too.
   function step(it, move) {
     const goesAround = around.has("filters") && filters.get(it);
     if (goesAround) window.acceptNode = filters.get(it);
@@ -293,7 +293,7 @@ function answering(open, named) {
     notify,
   };
 
-  // Numbers of nodes that the last command made inside: of trees the numbers of all their nodes, in tree order.
+  // Numbers the nodes that the last command made inside, by the numbers of all nodes of their trees in tree order.
   function numbered(trees, next) {
     for (const [top, known] of trees) {
       if (!nodes[top]) continue;
@@ -311,7 +311,7 @@ function answering(open, named) {
     for (let child = node.firstChild; child; child = child.nextSibling) yield* walked(child);
   }
 
-  // The first nodes of a tree, in tree order.
+  // Returns the first nodes of a tree, in tree order.
   function firstOf(top, count) {
     const found = [];
     for (const node of walked(top)) if (found.push(node) >= count) break;
@@ -333,7 +333,7 @@ function answering(open, named) {
     numbers: (line) => (numbered(line.numbers, line.next), { ok: null }),
   };
 
-  // What a refusal is told as; the message is for readers alone.
+  // Returns the reply of a refusal. The message is for readers alone.
   function refusal(thrown) {
     if (thrown instanceof Skipped) return { skip: thrown.message };
     const standard = /Error$/.test(thrown?.name) && thrown.name !== "Error";

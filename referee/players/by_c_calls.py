@@ -12,7 +12,7 @@ FOLDER = os.environ["HUCKLEPORT_LIB_DIR"]
 
 
 class Unsaid:
-    """Takes what a session tells of its calls, and keeps nothing."""
+    """Takes a session's reports of its calls, and keeps nothing."""
 
     def say(self, name, words, status):
         pass

@@ -90,7 +90,7 @@ class World:
         return walk(top, self._children)
 
     def _put(self, number, placed):
-        """What a call that places a node gives back: another node where the two were joined, and the one that was given is gone."""
+        """Returns the number of the node that a placing call returns. If two nodes were joined, that is another node, and the given one is freed."""
         if not placed:
             raise Refused("*")
         if address(placed) != address(self._n(number)):

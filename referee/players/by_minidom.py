@@ -19,7 +19,7 @@ def text_out(value):
 
 
 def refusing(method):
-    """A method whose DOMException is told by the standard's name."""
+    """Returns a method whose DOMException becomes a refusal by the standard's name."""
 
     def called(*values):
         try:

@@ -1,5 +1,5 @@
-// Lines through a DOM of node: `node referee/players/node.js MODULE NAME`. What a module has to give stands at `openerOf`. Lines are read one by one, so
-// that nothing runs in between, and each reply is written at once, so that a line which never comes back is known to be the one.
+// Answers lines by a DOM of node: `node referee/players/node.js MODULE NAME`. `openerOf` has the exports that a module needs. Lines are read one by one,
+// so that nothing runs in between. Each reply is written at once, so that a line without a reply is known.
 "use strict";
 
 const { readSync, writeSync } = require("fs");
@@ -10,14 +10,14 @@ async function loaded(name) {
   try {
     return require(name);
   } catch (fault) {
-    // (the second is what a node says that reads modules in this way, of one that waits for something)
+    // (a node that reads modules by require has the second code for a module with a top-level await)
     if (!["ERR_REQUIRE_ESM", "ERR_REQUIRE_ASYNC_MODULE"].includes(fault.code)) throw fault;
     return import(pathToFileURL(require.resolve(name)));
   }
 }
 
-// What makes windows, by what a module gives: a maker of windows or of documents, a window, or something with a `document`; and the same as its users
-// write it, where MODULE stands for what `require` returns.
+// Returns the maker of a module's windows, and its users' code for one. In that code MODULE is the module that `require` returns. The
+// module's exports have a maker of windows or of documents, a window, or an object with a `document`.
 function openerOf(found) {
   if (found.JSDOM) return [() => new found.JSDOM("").window, 'new (MODULE.JSDOM)("").window'];
   if (found.createWindow) return [() => found.createWindow(), "MODULE.createWindow()"];
@@ -43,7 +43,7 @@ function versionOf(name) {
 
 const piece = Buffer.alloc(65536);
 
-// The next bytes of the input; none at its end.
+// Returns the next bytes of the input; none at its end.
 function read() {
   try {
     return piece.subarray(0, readSync(0, piece));

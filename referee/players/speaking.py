@@ -1,26 +1,26 @@
-"""What every player in Python does: it reads a line, answers it, and begins a new world where it is told to."""
+"""The work of every player in Python: it reads a line, answers it, and begins a new world at the line for that."""
 import json
 import sys
 
 
 class Skip(Exception):
-    """There is nothing to be answered here, and the reason."""
+    """A command has no answer here. The message is the reason."""
 
 
 class Refused(Exception):
-    """A refusal, by the name that the standard gives it."""
+    """A refusal, by its name in the standard."""
 
     def __init__(self, name):
         super().__init__(name)
         self.name = name
 
 
-# Past so many nodes a tree is taken for one that has itself below itself.
+# A tree with more nodes is taken for one that contains itself.
 MOST = 2000
 
 
 def walk(top, children):
-    """A tree in tree order: depths and nodes. `children` gives those of a node, in order."""
+    """Yields the depths and nodes of a tree, in tree order. `children` returns those of a node, in order."""
     waiting, count = [(0, top)], 0
     while waiting:
         count += 1
@@ -32,7 +32,7 @@ def walk(top, children):
 
 
 def known_by_place(speaker, trees, last):
-    """Numbers nodes that a command made inside: of each tree the numbers of its nodes, in tree order."""
+    """Numbers the nodes that a command made inside, by the numbers of the nodes of each tree in tree order."""
     speaker.nodes += [None] * (last - len(speaker.nodes))
     for top, numbers in trees:
         found = speaker._walk(speaker.nodes[top]) if speaker.nodes[top] is not None else ()
@@ -42,14 +42,14 @@ def known_by_place(speaker, trees, last):
 
 
 def text_in(value):
-    """A text of a line as Python has it."""
+    """Returns a text of a line as Python's text."""
     if isinstance(value, list):
         return b"".join(it.to_bytes(2, "little") for it in value).decode("utf-16-le", "surrogatepass")
     return value
 
 
 def reply_of(speaker, name, values):
-    """The reply of a speaker, whose methods have the names of the commands."""
+    """Returns the reply of a speaker, whose methods have the names of the commands."""
     method = getattr(speaker, name, None) if name[:1] != "_" else None
     if method is None:
         return {"skip": "has no such command"}
@@ -64,7 +64,7 @@ def reply_of(speaker, name, values):
 
 
 def serve(begin, told, reply=reply_of):
-    """Answers all lines; `begin` gives what speaks for a new world, `told` is the player as hello tells it."""
+    """Answers all lines. `begin` returns the speaker of a new world; `told` describes the player in the reply to hello."""
     speaker = begin()
     for line in sys.stdin:
         given = json.loads(line)
@@ -86,5 +86,5 @@ def serve(begin, told, reply=reply_of):
 
 
 def commands_of(kind):
-    """The commands that a speaker has: its public methods."""
+    """Returns the commands of a speaker: its public methods."""
     return sorted(it for it in dir(kind) if it[0] != "_" and callable(getattr(kind, it)))

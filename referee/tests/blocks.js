@@ -1,7 +1,7 @@
-// Runs blocks of a page, each by itself. In node it reads a JSON list of texts and prints a list of what each prints; a page calls `printed` itself.
+// Runs blocks of a page, each by itself. In node it reads a JSON list of texts and prints a list of their outputs. A page calls `printed` itself.
 "use strict";
 
-// The lines that a text prints, those of its callbacks and timers too.
+// Returns the lines that a text prints, also those of its callbacks and timers.
 async function printed(text, require) {
   const found = [];
   const log = (...told) => found.push(told.map(String).join(" "));

@@ -1,6 +1,6 @@
 #!/usr/bin/env python3
-"""Stands for a browser in tests: it takes streams from the page's server, answers each line that something was done, and never comes back from a line
-that says "stuck".
+"""A stand-in for a browser in tests: it takes streams from the page's server, replies to each line that it was done, and never replies to a line that
+has "stuck".
 """
 import json
 import sys

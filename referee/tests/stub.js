@@ -1,5 +1,5 @@
-// A small DOM for tests of the adapter: elements that can be appended, and nothing else. Making an element named "stuck" never comes back, and one named
-// "odd" is told to be another.
+// A small DOM for tests of the adapter: elements that can be appended, and nothing else. Making an element named "stuck" never returns, and an element
+// named "odd" has another name.
 "use strict";
 
 class Element {

@@ -2,8 +2,8 @@
 """A wrapper around the core that answers as one wrong body would, to try the referee: `wrong.py CORE FAULT`, where CORE is the program or a
 libhuckleport.so. With more than one fault it answers as a core that has all of them.
 
-Most faults change the world behind the program's reply by commands of their own (they set range ends anew, or take out what should stay), so that
-all later replies are those of a core with that body. Others alter the reply alone.
+Most faults change the world behind the program's reply by commands of their own: they set range ends anew, or remove nodes that should stay. All later
+replies are then those of a core with that body. Others alter the reply alone.
 """
 import json
 import os
@@ -20,7 +20,7 @@ FRAGMENT, DOCTYPE, DOCUMENT, COMMENT, TEXT, ELEMENT = 11, 10, 9, 8, 3, 1
 
 
 class World:
-    """A world of the core, and what was made in it."""
+    """A world of the core, and the objects made in it."""
 
     def __init__(self, cores):
         self.core = cores.open()
@@ -50,7 +50,7 @@ class World:
         self.reply("setEnd", number, end, min(j, self.ask("length", end)))
 
     def move_ends(self, moved):
-        """Sets all ends anew: `moved` gives another point for one, or the same."""
+        """Sets all ends anew: `moved` returns another point for one, or the same."""
         for number, (start, i, end, j) in self.ends().items():
             wanted = [*moved(start, i), *moved(end, j)]
             if wanted != [start, i, end, j]:
@@ -60,11 +60,11 @@ class World:
         self.core.end()
 
 
-# Each fault answers a command, with the world that stands ahead of it.
+# Each fault answers a command, with the world as it is before the command.
 
 
 def removed(world, command):
-    """The node that a command takes from its parent, its parent and its index; None where it takes none."""
+    """Returns the node that a command removes, its parent and its index; None if it removes none."""
     node = command[1 + REMOVALS[command[0]]] if command[0] in REMOVALS else None
     place = world.ask("node", node) if node is not None else None
     if not place or place["parent"] is None:
@@ -98,7 +98,7 @@ def removal_leaves_ends(world, command):
 
 
 def insertion_shifts_equal(world, command):
-    """Insertion moves an end that stands right at the place."""
+    """Insertion moves an end that is right at the place."""
     reply = world.pass_on(command)
     if command[0] == "insertBefore" and "ok" in reply and world.ask("node", command[2])["parent"] == command[1]:
         at = world.ask("index", command[2])
@@ -107,7 +107,7 @@ def insertion_shifts_equal(world, command):
 
 
 def split_off_by_one(world, command):
-    """Ends that go into the new Text of a split stand one unit too far."""
+    """Ends that a split moves into the new Text are one unit too far."""
     reply = world.pass_on(command)
     if command[0] == "splitText" and "ok" in reply:
         world.move_ends(lambda node, offset: (node, offset + 1) if node == reply["ok"] and offset else (node, offset))
@@ -130,7 +130,7 @@ def split_leaves_parent_ends(world, command):
 
 
 def ends_sent_into_parent(world, command):
-    """Insertion moves an end in another node too, into the parent, where the start of its range stands there."""
+    """Insertion also moves an end in another node, into the parent, if the start of its range is in the parent."""
     before = world.ends() if command[0] == "insertBefore" and command[3] is not None else {}
     reply = world.pass_on(command)
     for number, (start, i, end, j) in before.items() if "ok" in reply else ():
@@ -140,14 +140,14 @@ def ends_sent_into_parent(world, command):
 
 
 def records_in(reply, command, altered):
-    """A reply whose records are altered; one that is altered to None is lost."""
+    """Returns a reply with altered records. A record that is altered to None is lost."""
     if command[0] == "takeRecords" and "ok" in reply:
         reply["ok"] = [it for it in map(altered, reply["ok"]) if it]
     return reply
 
 
 def fragment_record_lost(world, command):
-    """Putting in a fragment queues no record of the fragment."""
+    """The insertion of a fragment queues no record of the fragment."""
     return records_in(world.pass_on(command), command, lambda it: None if world.ask("node", it[1])["type"] == FRAGMENT else it)
 
 
@@ -158,7 +158,7 @@ def equal_data_record_lost(world, command):
 
 
 def old_value_of_nearest(world, command):
-    """The old value is lost where the nearest registration does not ask for it."""
+    """The old value is lost if the nearest registration does not ask for it."""
     if command[0] == "observe":
         world.kept[command[1], command[2]] = command[3]
     asks = {"attributes": "attributeOldValue", "characterData": "characterDataOldValue"}
@@ -171,7 +171,7 @@ def old_value_of_nearest(world, command):
 
 
 def transients_outlive_notify(world, command):
-    """What was removed below an observed node is observed for good."""
+    """A node that was removed below an observed one is observed for good."""
     if command[0] == "observe":
         world.kept[command[1], command[2]] = command[3]
     gone = removed(world, command)
@@ -208,7 +208,7 @@ def iterator_steps_back(world, command):
 
 
 def child_ahead_of_ancestor(world, command):
-    """Whether the child is the parent's is asked ahead of whether the node stands above the parent."""
+    """The check that the child is the parent's precedes the check that the node is no ancestor of the parent."""
     reply = world.pass_on(command)
     if command[0] == "insertBefore" and reply.get("error") == "HierarchyRequestError" and command[3] is not None:
         if world.ask("node", command[3])["parent"] != command[1] and world.ask("node", command[1])["type"] in (ELEMENT, FRAGMENT, DOCUMENT):
@@ -217,7 +217,7 @@ def child_ahead_of_ancestor(world, command):
 
 
 def doctype_may_follow(world, command):
-    """An element may come ahead of the Document's doctype."""
+    """An element may be inserted ahead of the Document's doctype."""
     reply = world.pass_on(command)
     if command[0] == "insertBefore" and "error" in reply and command[3] is not None:
         kinds = [(world.ask("node", it) or {}).get("type") for it in command[1:]]
@@ -255,7 +255,7 @@ def shifted_ahead_of_removal(world, command):
 
 
 def walker_shuts_out_root(world, command):
-    """previousNode of a walker never answers its root."""
+    """previousNode of a walker never returns its root."""
     before = world.ask("walker", command[1]) if command[0] == "walk" else None
     reply = world.pass_on(command)
     if before and command[2] == "previousNode" and reply.get("ok") == before[0]:
@@ -294,7 +294,7 @@ def range_text_with_comments(world, command):
 
 
 def observer_replaces_another(world, command):
-    """Observing a node ends what other observers have there."""
+    """Observing a node ends other observers' registrations there."""
     reply = world.pass_on(command)
     if command[0] == "observe" and "ok" in reply:
         for other in [it for it, nodes in world.kept.items() if it != command[1] and nodes == {command[2]}]:
@@ -330,7 +330,7 @@ def normalize_keeps_empty(world, command):
 
 
 def previous_ahead_of_removal(world, command):
-    """The record of an insertion tells the previous sibling as it was ahead of the node's own removal."""
+    """The record of an insertion has the previous sibling from before the node's own removal."""
     if command[0] in ("insertBefore", "appendChild"):
         _, parent, node, child = (*command, None)[:4]
         place = world.ask("node", node)
@@ -341,7 +341,7 @@ def previous_ahead_of_removal(world, command):
 
 
 def registrations(world, command):
-    """Keeps what is observed, with all options."""
+    """Keeps the observed nodes, with all options."""
     if command[0] == "observe":
         world.kept[command[1], command[2]] = command[3]
     if command[0] == "disconnect":
@@ -349,7 +349,7 @@ def registrations(world, command):
 
 
 def two_records_of_one(world, command):
-    """An observer of a node and of one above it gets a record for each."""
+    """An observer of a node and of its ancestor gets a record for each."""
     reply = world.pass_on(command)
     registrations(world, command)
     if command[0] != "takeRecords" or "ok" not in reply:
@@ -360,7 +360,7 @@ def two_records_of_one(world, command):
 
 
 def replaced_without_transients(world, command):
-    """What goes by a replacement is observed no longer."""
+    """A node that a replacement removed is no longer observed."""
     gone = [command[3]] if command[0] == "replaceChild" else world.ask("children", command[1]) or [] if command[0] == "replaceChildren" else []
     reply = world.pass_on(command)
     if "ok" in reply:
@@ -385,7 +385,7 @@ def transient_counts(world, command):
 
 
 def back_pointer_stays(world, command):
-    """What follows a removed node still has it as its previous sibling."""
+    """The next sibling of a removed node still has it as its previous sibling."""
     gone = removed(world, command)
     place = world.ask("node", gone[0]) if gone else None
     reply = world.pass_on(command)
@@ -421,7 +421,7 @@ def limit_soon(world, command):
 
 
 def discard_leaves_children(world, command):
-    """Discarding a node leaves what is below it."""
+    """Discarding a node leaves its descendants."""
     rows = world.ask("tree", command[1]) or [] if command[0] == "discard" else []
     below = {row[1]: world.reply("node", row[1]) for row in rows[1:]}
     reply = world.pass_on(command)
@@ -431,7 +431,7 @@ def discard_leaves_children(world, command):
 
 
 def discard_overlooks_records(world, command):
-    """What queued records name can be discarded."""
+    """Nodes that queued records name can be discarded."""
     registrations(world, command)
     reply = world.pass_on(command)
     if command[0] != "discard" or reply.get("error") != "in-use":
@@ -442,7 +442,7 @@ def discard_overlooks_records(world, command):
     return {"ok": None} if alone else reply
 
 
-# What is wrong with the player itself.
+# Faults of the player itself.
 
 
 def dies(world, command):
@@ -460,7 +460,7 @@ def hangs(world, command):
 
 
 def prints_rubbish(world, command):
-    """Its reply to a normalize is none."""
+    """Its reply to a normalize is no reply."""
     return "Segmentation fault" if command[0] == "normalize" else world.pass_on(command)
 
 
@@ -487,7 +487,7 @@ GROUPS = {
 }
 Fault = namedtuple("Fault", "group answer")
 FAULTS = {it.__name__: Fault(group, it) for group, its in GROUPS.items() for it in its}
-# What does not come again, and so is no fault of a body.
+# A fault that does not come again, and so is none of a body.
 ONCE = {"stumbles": Fault("data", stumbles)}
 
 
@@ -502,7 +502,7 @@ class Over:
 
 
 def world_of(cores, faults):
-    """A world in which all faults are."""
+    """Returns a world that has all the faults."""
     world = World(cores)
     for it in faults:
         world = Over(world, {**FAULTS, **ONCE}[it].answer)

@@ -18,7 +18,7 @@ from .worlds import LEFT_OUT, OUT_OF_MEMORY, OUT_OF_TIME, Unanswered, World, res
 
 ANSWER, REPLAY = 1, 2
 JOB = struct.Struct("<BdQQ")
-"""What is done, the processor seconds of a line, and the bytes of lines and of replies in the shared file."""
+"""A job: its kind, the processor seconds of a line, and the bytes of lines and of replies in the shared file."""
 
 LENGTH = struct.Struct("<I")
 SAME, SHORT = 0xFFFFFFFF, 0xFFFFFFFE

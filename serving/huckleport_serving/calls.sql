@@ -1,6 +1,7 @@
--- The functions that clients, workers and operators call. They run with the rights of the owner of the tables, and roles.sql says who may call
--- which. A client in any language needs enter, make, submit, replies, entries, and two channels: huckleport_client_ID notifies of a document's
--- id when lines of that client were answered there, and huckleport_document_ID notifies when a document has new lines.
+-- The functions that clients, workers and operators call. They run with the rights of the owner of the tables, and roles.sql grants the calls.
+-- A client in any language needs enter, make, submit, replies, entries, and two channels. The channel huckleport_client_ID notifies of a document's
+-- id when lines of that client were answered there. The channel huckleport_document_ID notifies when a document has new lines.
+--
 -- (The planner settings keep plans to index look-ups, whatever the statistics say of tables that fill and empty all the time.)
 
 -- Every time here. (One place, so that a test can move it.)
@@ -67,9 +68,9 @@ create view huckleport.log_lines as
     union all
     select s.document, it.number, it.client, it.request, it.line, it.reply from huckleport.segments s cross join lateral huckleport.opened(s) as it;
 
--- The number at which a piece of a log ends that begins in a segment: the last one of whole segments, with at most so many lines and bytes; or of
--- a single one. It is null if the piece begins behind all segments. (Functions that read a log are stable. So all their queries see one state,
--- also while lines are moved.)
+-- Returns the last number of a piece of a log that begins in a segment. The piece has whole segments of at most `most` lines and `bytes` bytes, or
+-- a single one. The number is null if the piece begins behind all segments. (Functions that read a log are stable. So all their queries see one
+-- state, also while lines are moved.)
 create function huckleport.segments_end(document bigint, behind bigint, most int, bytes bigint) returns bigint language plpgsql stable as $$
 declare
     one record;
@@ -112,7 +113,7 @@ create function huckleport.last_moved(document bigint, client uuid) returns bigi
     select max(c.last_request) from huckleport.segment_clients c where c.document = last_moved.document and c.client = last_moved.client
 $$;
 
--- The replies to a client's requests behind a number, of its lines in segments: the first so many at least.
+-- Returns replies to a client's requests behind a number, of its lines in segments: at least the first `most` of them.
 create function huckleport.moved_replies(document bigint, client uuid, behind bigint, most int)
 returns table (request bigint, reply bytea) language plpgsql stable as $$
 declare
@@ -266,7 +267,7 @@ begin
     order by given.place
     on conflict on constraint requests_client_document_request_key do nothing;
     get diagnostics put = row_count;
-    -- (Another statement, so it also sees what was recorded while the first one waited for a worker's row.)
+    -- (Another statement, so it also sees lines that were recorded while the first one waited for a worker's row.)
     if put < cardinality(lines) or exists (select from huckleport.lines l
             where l.document = submit.document and l.client = submit.client and l.request >= submit.first)
         or exists (select from huckleport.answers a
@@ -374,7 +375,7 @@ begin
     order by 1;
 end $$;
 
--- The last number of a piece of a log that has at most so many lines and bytes, and at least one line.
+-- Returns the last number of a piece of a log that has at most `most` lines and `bytes` bytes, and at least one line.
 create function huckleport.piece_end(document bigint, behind bigint, most int, bytes bigint) returns bigint language plpgsql stable as $$
 declare
     size bigint;
@@ -391,8 +392,9 @@ begin
         where it.upto <= piece_end.bytes));
 end $$;
 
--- The same in one row, which is faster to read: how many lines, the last one's number, and of each its client, its request, line and reply,
--- joined by commas and by newlines. (An aggregate of an ordered query without joins keeps its order, and sorts nothing.)
+-- Returns a piece of a log in one row, which is faster to read: the number of lines, the last one's number, and all clients, requests, lines and
+-- replies. Clients and requests are joined by commas, lines and replies by newlines. (An aggregate of an ordered query without joins keeps its
+-- order, and sorts nothing.)
 create function huckleport.page(document bigint, behind bigint, most int, bytes bigint)
 returns table (count bigint, last bigint, clients text, requests text, lines bytea, replies bytea) language plpgsql stable
 security definer set search_path = pg_catalog, pg_temp set jit = off set enable_bitmapscan = off set max_parallel_workers_per_gather = 0 as $$
@@ -520,7 +522,8 @@ security definer set search_path = pg_catalog, pg_temp set jit = off as $$
     where given.is_moved
 $$;
 
--- Notifies clients and followers of what was answered, and then returns what waits for some documents, so many lines and bytes of each.
+-- Notifies the clients and followers of answered lines. Then it returns waiting lines of some documents: of each at most `most` lines and `bytes`
+-- bytes, and at least one line.
 create function huckleport.take(documents bigint[], most int, bytes bigint, clients uuid[], answered bigint[])
 returns table (document bigint, ids bigint[], lines bytea) language plpgsql security definer set search_path = pg_catalog, pg_temp
 set jit = off set enable_hashjoin = off set enable_mergejoin = off set enable_seqscan = off set enable_bitmapscan = off set enable_material = off as $$
@@ -671,8 +674,8 @@ begin
     return true;
 end $$;
 
--- Moves the oldest lines of a document's log to a segment, of so many lines and bytes at most, if as many are there beside the newest `keep`.
--- Returns how many it moved. To move all that is due it is called again and again: each call holds the document's row for a moment only.
+-- Moves the oldest lines of a document's log to a segment of at most `most` lines and `bytes` bytes, if none of them is among the newest `keep`.
+-- Returns the number of moved lines. To move all due lines it is called again and again: each call locks the document's row for a moment only.
 create function huckleport.compress(given text, keep bigint default 10000, most int default 2000, bytes bigint default 262144)
 returns bigint language plpgsql security definer set search_path = pg_catalog, pg_temp set jit = off set enable_bitmapscan = off as $$
 declare

@@ -67,7 +67,7 @@ def add_send(parser: argparse.ArgumentParser) -> None:
 
 
 def chunks(file: Any, longest: int, most: int = 1000) -> Iterator[List[bytes]]:
-    """Reads the lines of a file as they come, and at most so many at once. Of a line past the longest its first bytes are read, and more."""
+    """Yields the lines of a file as they arrive, at most `most` at once. A line past `longest` may be shortened, and stays longer than that."""
     parts: List[bytes] = []
     size = 0
     while read := os.read(file.fileno(), 1 << 16):
@@ -158,7 +158,7 @@ def add_compress(parser: argparse.ArgumentParser) -> None:
 
 
 def compress(given: argparse.Namespace) -> int:
-    """Moves old lines of logs to compressed segments, and prints how many of which document."""
+    """Moves old lines of logs to compressed segments, and prints how many of each document."""
     found = set()
     for conninfo in given.database:
         with connected(conninfo) as connection:
@@ -357,13 +357,13 @@ def end(workers: List[subprocess.Popen[bytes]]) -> None:
 
 
 def started_as() -> List[str]:
-    """The words by which this Python was started as these commands."""
+    """Returns the words that started this Python as these commands."""
     return ["-m", __package__] if sys.argv[0].endswith("__main__.py") else [sys.argv[0]]
 
 
 PARTS: Dict[str, Tuple[Callable[[argparse.Namespace], int], Callable[[argparse.ArgumentParser], None], str]] = {
     "create": (create, lambda parser: None, "make or upgrade the tables in a database, or in each of a list"),
-    "worker": (worker, add_worker, "serve a database's documents, until it is told to stop"),
+    "worker": (worker, add_worker, "serve a database's documents until it is stopped"),
     "send": (send, add_send, "send the lines of standard input to a document, and write the replies"),
     "follow": (follow, add_follow, "write a document's lines and replies as they come"),
     "verify": (verify, add_verify, "replay documents, and compare each reply byte for byte"),

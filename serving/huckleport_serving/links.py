@@ -87,12 +87,12 @@ def is_passing(fault: psycopg.Error) -> bool:
 
 
 def completed(conninfo: str) -> str:
-    """Connection words with what is the default here."""
+    """Returns connection words with the defaults of this package."""
     return make_conninfo(conninfo, **{name: it for name, it in DEFAULTS.items() if name not in conninfo_to_dict(conninfo)})
 
 
 def connected(conninfo: str, settings: Sequence[Setting] = (), waits: bool = True) -> psycopg.Connection[Any]:
-    """A connection each statement of which is a transaction. It has waited until all that it can see is safe, if it is asked to."""
+    """Returns a connection whose statements are transactions by themselves. If it `waits`, all that the connection can see is safe."""
     connection = psycopg.connect(completed(conninfo), autocommit=True)
     try:
         if waits:

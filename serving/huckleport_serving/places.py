@@ -1,7 +1,7 @@
-"""Which of several databases has a document.
+"""The places of documents among several databases.
 
-A name's place among so many databases is that of jump consistent hashing (Lamping and Veach, 2014): as they become one more, a name keeps its
-place or gets the new one. So a document that was made when there were fewer stands at one of a few places, and nothing is ever moved.
+A name's place is that of jump consistent hashing (Lamping and Veach, 2014): when a database is added, a name keeps its place or gets the new one.
+So a document that was made when there were fewer databases is at one of a few places, and nothing is ever moved.
 """
 
 from __future__ import annotations
@@ -11,7 +11,7 @@ from typing import List
 
 
 def jumps(name: str, count: int) -> List[int]:
-    """The places that a name had as the databases became `count`, the last first."""
+    """Returns the places that a name had while the databases grew to `count`, the last first."""
     key = int.from_bytes(hashlib.sha256(name.encode("utf-8", "surrogatepass")).digest()[:8], "little")
     found, following = [0], 0
     while True:

@@ -38,7 +38,7 @@ class PooledLink(Link):
 
 
 class Pool:
-    """Makes clients, each with an id that no other has, over so many connections to each database of a list."""
+    """Makes clients, each with an id that no other has, over a bounded number of connections to each database of a list."""
 
     def __init__(self, *conninfo: str, connections: int = 8) -> None:
         self._conninfo = conninfo or ("",)

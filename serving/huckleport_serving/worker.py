@@ -32,7 +32,7 @@ PIECE_LINES, PIECE_BYTES = 20_000, 16 << 20
 """How much of the logs is replayed before other documents are served again."""
 
 AHEAD_LINES = 1_000
-"""If a piece of a log has so many lines, the database reads the next one while it is replayed."""
+"""If a piece of a log has at least this many lines, the database reads the next piece while it is replayed."""
 
 ELSEWHERE = 0.5
 """For how long a document that could not be claimed is not tried again when lines come for it, in seconds."""
@@ -41,7 +41,7 @@ FEWEST = 16
 """How many lines of a document are taken at once, where many documents have some."""
 
 SWEEP = 0.5
-"""How often a worker looks for itself at what waits, and at what is idle, in seconds."""
+"""How often a worker itself checks for waiting lines and for idle documents, in seconds."""
 
 AVOIDED = 10.0
 """For how long a worker leaves a document to others that it had no memory for, in seconds."""
@@ -50,7 +50,7 @@ TURN = 0.2
 """How long the lines of a turn are answered before they are recorded, or replayed before other documents are served, in seconds."""
 
 SUSPECT = 3
-"""A document that was claimed so many times without a line of it recorded is given a process of its own."""
+"""A document that was claimed this many times without a recorded line gets a process of its own."""
 
 SHARE = 5.0
 """How long a document has its process to itself before another heavy document may get the place, in seconds."""
@@ -67,8 +67,8 @@ FORGET, DROP = 30.0, 5.0
 
 @dataclass(frozen=True)
 class Bounds:
-    """The bounds of a worker: documents, bytes of memory, lines and bytes that are answered at once, processes for single documents, the
-    lease and when a document is idle, in seconds; and whether it adopts documents of versions that no worker has."""
+    """The bounds of a worker: documents, bytes of memory, lines and bytes that are answered at once, and processes for single documents. The
+    lease and the idle time of a document are in seconds. If it `adopts`, it claims documents of versions that no worker has."""
 
     documents: int = 10_000
     memory: int = 2 << 30
@@ -520,7 +520,7 @@ class Tenure:
         if is_wrong:
             self._give_up(held, f"line {held.last + 1} has another reply when it is replayed")
 
-    # letting go
+    # releasing documents
 
     def _drop(self, dropped: Sequence[Held], why: str) -> None:
         for it in dropped:
@@ -543,7 +543,7 @@ class Tenure:
         self._row("select huckleport.release(%s, %s::bigint[], %s)", self.id, array([held.document]), fault)
 
     def _evict(self, idle: float, most: int) -> None:
-        """Lets go of the documents for which nothing was answered for so long, the longest first."""
+        """Releases documents that were idle for more than `idle` seconds, the longest first, and at most `most`."""
         since = time.monotonic() - idle
         free = (it for it in self.held.values() if it.used < since and it.is_whole and not it.is_busy and it.document not in self.due)
         found = sorted(free, key=lambda it: it.used)[:most]
@@ -575,7 +575,7 @@ class Tenure:
         return resident() + sum(it.alone.resident() for it in self.apart.values() if it.alone is not None)
 
     def _shrink(self) -> None:
-        """Lets go of an eighth of the documents for which no line waits; or of a large one, if that is not enough."""
+        """Releases an eighth of the documents, of those for which no line waits. If that is not enough, it releases a large one."""
         give_memory_back()
         if self._taken() > self.bounds.memory:
             self._evict(0.0, len(self.held) // 8 + 1)
@@ -596,7 +596,7 @@ class Worker:
         self.is_stopped = False
         self._answered = 0
         self._left: List[int] = []
-        # What is written here ends a wait.
+        # A pipe that ends a wait once it has a byte.
         self._woken, self._wake = os.pipe()
 
     def stop(self) -> None:
@@ -605,7 +605,7 @@ class Worker:
         os.write(self._wake, b".")
 
     def run(self) -> None:
-        """Serves until it is stopped. After a statement that failed, most often since the connection was lost, it does not know what was
+        """Serves until it is stopped. After a failed statement, most often since the connection was lost, it does not know which lines were
         recorded. So it drops all documents, and claims and replays them again on a new connection.
         """
         bound_memory(self.bounds.memory)

@@ -21,7 +21,7 @@ LONGEST = 64 << 20
 """The bytes of the longest reply that is recorded."""
 
 WATCHED_LINES, MOST_WATCHED_LINES = 4, 32
-"""A replay is watched once for so many lines, which together then count as one: the first while they are slow, the second otherwise."""
+"""The lines of a replay that are watched together, and count as one: the first number while they are slow, the second otherwise."""
 
 HEAVY_SECONDS, HEAVY_BYTES, WATCHED_SECONDS = 0.05, 64 << 20, 0.005
 """A document is heavy if one of its lines takes so much processor time, or if its lines took so much memory. (Memory is read after lines that
@@ -95,7 +95,7 @@ class Watch:
 
 
 def replay(world: World, lines: Sequence[bytes], replies: Sequence[bytes], watch: Watch, seconds: float) -> Tuple[int, bool]:
-    """Answers lines that were answered before, for so many seconds. Returns how many have the same reply, and whether the next one has another.
+    """Answers lines that were answered before, for `seconds` at most. Returns how many have the same reply, and whether the next one has another.
 
     Raises `Unanswered` if a line is heavy for the watch.
     """

@@ -1,7 +1,7 @@
 #!/usr/bin/env python3
-"""A client of a test: sends its lines to each of its documents in turn, a few at a time, and writes down what was acknowledged.
+"""A client of a test: it sends its lines to each of its documents in turn, a few at a time, and writes the acknowledged replies to a journal.
 
-Started again with the same words it sends again what it had not written down, under the same requests.
+If it is started again with the same words, it sends the lines without a reply in its journal again, under the same requests.
 """
 
 from __future__ import annotations
@@ -31,12 +31,12 @@ def client_of(number: int) -> uuid.UUID:
 
 
 def lines_of(client: int, document: int, count: int) -> list[bytes]:
-    """What a client sends to a document, all of it."""
+    """Returns all lines that a client sends to a document."""
     return lines((client, document), count)
 
 
 def acknowledged(path: str) -> dict[int, list[bytes]]:
-    """The replies that were written down, by their documents; a line that was cut off was not."""
+    """Returns the replies of a journal, by their documents, without a last line that was cut off."""
     found: dict[int, list[bytes]] = {}
     if os.path.exists(path):
         with open(path, "rb") as file:
@@ -70,7 +70,7 @@ def main() -> None:
 
 
 def turn(client, number, todo, done, chunk, journal):
-    """Sends the next few lines to a document, again and again until they are answered, also where no server is there for long."""
+    """Sends the next few lines to a document, and writes the replies to the journal. Without an answer the next turn sends them again."""
     part = todo[done[number] : done[number] + chunk]
     if not part:
         return

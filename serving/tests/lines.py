@@ -1,4 +1,4 @@
-"""Lines of an editor: what a random client does to a document, right and wrong."""
+"""Lines of an editor: the commands of a random client to a document, right and wrong."""
 
 from __future__ import annotations
 
@@ -46,5 +46,5 @@ READING = (b'["range"', b'["node"', b'["tree"', b'["root"')
 
 
 def changes(given: List[bytes]) -> List[bytes]:
-    """The lines that stand in a log."""
+    """Returns the lines that a log has: all but the questions."""
     return [it for it in given if not it.startswith(READING)]

@@ -21,23 +21,23 @@ sys.path[:0] = [HERE, os.path.join(ROOT, "bindings/python")]
 from huckleport_serving.links import create_tables
 from huckleport_serving.trial import SYNCHRONOUS, Server
 
-# What a server gets whose data need not outlive the test's machine; what a commit waits for is as it is by default.
+# The settings of a server whose data need not outlive the test's machine. Commits wait as by default.
 SMALL = {"max_connections": "200", "shared_buffers": "256MB"}
 
 
 def replies_of(given: List[bytes], *words: str) -> List[bytes]:
-    """What one process of the program answers to lines."""
+    """Returns the replies of one process of the program to lines."""
     ran = subprocess.run([PROGRAM, *words], input=b"".join(it + b"\n" for it in given), stdout=subprocess.PIPE, check=True)
     return ran.stdout.split(b"\n")[:-1]
 
 
 def told(text: str) -> None:
-    """What a test measured, for whoever reads along."""
+    """Prints a test's measurement."""
     print(f"   {text}", flush=True)
 
 
 class Idle:
-    """Tells how idle this machine's processors were meanwhile. A bound of seconds holds on a quiet machine, and other tests may run beside."""
+    """Measures how idle this machine's processors are meanwhile. A bound of seconds holds on a quiet machine, and other tests may run beside."""
 
     def __init__(self) -> None:
         self._before = self._read()
@@ -49,7 +49,7 @@ class Idle:
         return found[3] + found[4], sum(found)
 
     def is_quiet(self, busy: int) -> bool:
-        """Returns whether all processors but so many were idle, nearly always."""
+        """Returns whether all processors but `busy` were idle, nearly always."""
         idle, total = (now - then for now, then in zip(self._read(), self._before))
         count = os.cpu_count() or 1
         return count > busy and idle > 0.8 * total * (count - busy) / count
@@ -57,7 +57,7 @@ class Idle:
 
 @functools.lru_cache(maxsize=None)
 def made() -> str:
-    """A folder with a server's data, for copies: to make them takes longer."""
+    """Returns a folder with a server's data, for copies: to make them takes longer."""
     folder = tempfile.mkdtemp(prefix="hp-", dir="/tmp")
     atexit.register(shutil.rmtree, folder)
     os.chmod(folder, 0o755)
@@ -73,7 +73,7 @@ def copy_made(server: Server) -> None:
 
 @dataclass
 class Place:
-    """A folder with a database, a standby where one is wanted, and the workers of both."""
+    """A folder with a database, a standby if one is wanted, and the workers of both."""
 
     with_standby: bool = False
     settings: Dict[str, str] = field(default_factory=dict)

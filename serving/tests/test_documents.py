@@ -122,7 +122,7 @@ class Replies(Served):
     def test_a_retry_that_comes_late_is_dropped(self) -> None:
         document = self.client.document("late")
         document.send(MADE)
-        # (as one that was handed in before the lines were recorded, and seen after)
+        # (as if it was submitted before the lines were recorded, and seen after)
         words = "insert into huckleport.requests (document, client, request, line) values (%s, %s, 1, 'x')"
         self.connection.execute(words, (document.id, self.client.id))
         self.wait_until("select count(*) = 0 from huckleport.requests where document = %s", document.id)
@@ -156,7 +156,7 @@ class Replies(Served):
         self.assertEqual(heard, [f"huckleport_document_{document.id}"])
 
     def test_by_statements_alone(self) -> None:
-        """What the page shows for a client in another language."""
+        """The statements of the page for a client in another language."""
         self.connection.execute("select huckleport.enter('00000000-0000-0000-0000-00000000002a')")
         self.connection.execute('listen "huckleport_client_00000000-0000-0000-0000-00000000002a"')
         (document,) = self.row("select huckleport.make('by statements')")
@@ -170,7 +170,7 @@ class Replies(Served):
 
 
 class Fences(Served):
-    """What the calls of a worker refuse. There is no worker here."""
+    """The refusals of a worker's calls. There is no worker here."""
 
     def worker(self) -> int:
         (found,) = self.row("select huckleport.register('a test', '0.0', interval '1 hour')")

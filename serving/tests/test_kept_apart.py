@@ -24,7 +24,7 @@ REFUSED = {b'{"error":"out-of-memory"}', b'{"error":"out-of-time"}'}
 # Whether the long forms run, by hand and alone.
 WHOLE = bool(os.environ.get("HUCKLEPORT_WHOLE"))
 QUIET = 0.1
-"""A machine is quiet if a line that is sent alone is answered within so many seconds. Otherwise everybody waits for other work."""
+"""A machine is quiet if a line that is sent alone is answered within this many seconds. Otherwise everybody waits for other work."""
 
 
 def doubling(times: int) -> List[bytes]:
@@ -67,8 +67,8 @@ class Apart(Served):
             asking.join()
         self.assertIn(b'{"error":"out-of-memory"}', replies)
         quiet, found = max(waits[self.others : count]), waits[count:]
-        told(f"{len(found)} lines of {self.others} other documents meanwhile, of which one waited {max(found):.2f} s, and half {sorted(found)[len(found) // 2]:.3f} s")
-        told(f"before, while nobody else sent, one waited {quiet:.2f} s")
+        told(f"{len(found)} lines of {self.others} other documents meanwhile; the longest wait was {max(found):.2f} s, the median {sorted(found)[len(found) // 2]:.3f} s")
+        told(f"before, while nobody else sent, the longest wait was {quiet:.2f} s")
         self.assertGreater(len(found), self.others)
         # (in the gate other tests run beside this one, so there the bound is wide)
         self.assertLess(max(found), 1.0 if WHOLE and quiet < QUIET else 10.0)
@@ -142,7 +142,7 @@ class Apart(Served):
         return [int(it.split()[0]) for it in found.splitlines() if it.split()[1][0] != "Z"]
 
     def test_more_heavy_documents_than_processes(self) -> None:
-        """One process for three documents, of which one has lines without an end. The others get their turns."""
+        """One process is for three documents. One of them has lines without an end, and the others get their turns."""
         self.place.work(1, "--processes", "1")
         for at in range(3):
             self.client.document(f"heavy {at}").send(doubling(19), timeout=300)

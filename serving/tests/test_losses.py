@@ -1,4 +1,4 @@
-"""Workers, clients and a primary that are killed, and a worker that stands still past its lease, while clients send and retry."""
+"""Workers, clients and a primary that are killed, and a worker that is stopped past its lease, while clients send and retry."""
 
 from __future__ import annotations
 
@@ -24,7 +24,7 @@ LEASE = 3.0
 
 
 class Scene:
-    """So many clients, each of which sends to a share of the documents. Each document is several clients'."""
+    """Clients that each send to a share of the documents. Each document is several clients'."""
 
     def __init__(self, place: Place, documents: int, clients: int, lines: int, chunk: int, pause: float) -> None:
         self.place, self.documents, self.clients = place, documents, clients
@@ -46,11 +46,11 @@ class Scene:
         self.place.others.append(self.started[client])
 
     def done(self) -> int:
-        """How many lines were acknowledged."""
+        """Returns how many lines were acknowledged."""
         return sum(len(replies) for client in range(self.clients) for replies in acknowledged(self.journal(client)).values())
 
     def wait_for(self, lines: int, seconds: float = 300) -> None:
-        """Waits until so many lines were acknowledged."""
+        """Waits until `lines` lines were acknowledged."""
         until = time.monotonic() + seconds
         while self.done() < lines:
             if time.monotonic() > until:
@@ -101,7 +101,7 @@ class Losses(unittest.TestCase):
             scene.wait_for(done + 1)
 
     def stop_one_past_its_lease(self, place: Place, scene: Scene) -> None:
-        """One that has documents, stopped until others have taken them, and let go on."""
+        """Stops a worker that has documents until others have taken them, and then lets it continue."""
         with psycopg.connect(completed(place.conninfo), autocommit=True) as connection:
             number, process = self.busiest(place, connection)
             os.kill(process, signal.SIGSTOP)
@@ -114,7 +114,7 @@ class Losses(unittest.TestCase):
             os.kill(process, signal.SIGCONT)
 
     def busiest(self, place: Place, connection: psycopg.Connection) -> Tuple[int, int]:
-        """The worker that has the most documents of those that run: its number, and its process."""
+        """Returns the number and the process of the running worker that has the most documents."""
         words = "select w.id, w.name from huckleport.workers w join huckleport.documents d on d.owner = w.id group by w.id order by count(*) desc"
         running = {it.pid for it in place.workers}
         found = [(number, int(name.split()[1])) for number, name in connection.execute(words)]
@@ -181,5 +181,5 @@ class Whole(Losses):
 
 
 def load_tests(loader: unittest.TestLoader, *_: object) -> unittest.TestSuite:
-    """The small form, or the whole one where it is asked for."""
+    """Returns the tests of the small form, or of the whole one if it is asked for."""
     return loader.loadTestsFromTestCase(Whole if os.environ.get("HUCKLEPORT_WHOLE") else Losses)

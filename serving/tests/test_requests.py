@@ -90,9 +90,11 @@ PROCESSES = 4
 
 
 def does_something(steps: Sequence[str]) -> bool:
-    """Returns whether each step of an order has something to act on: a client that did nothing before is not started anew and sends no other line,
-    and the worker serves only if lines may wait. (An order with such a step is a shorter one. A shorter one ends as if a step `w` or `s` followed,
-    since all are served and read at the end. So the orders of the full length show what the shorter ones would.)
+    """Returns whether each step of an order has something to act on. A client that did nothing before is not started anew and sends no other line.
+    The worker serves only if lines may wait.
+
+    (An order with an idle step is a shorter one. A shorter one ends as if a step `w` or `s` followed, since all are served and read at the end.
+    So the orders of the full length cover the shorter ones.)
     """
     acted: Set[str] = set()
     waits = False
@@ -105,7 +107,7 @@ def does_something(steps: Sequence[str]) -> bool:
 
 
 class Orders(unittest.TestCase):
-    """All orders of up to so many steps, each with a document of its own.
+    """All orders of steps up to a length, each with a document of its own.
 
     Orders whose processes are started anew at the same steps share these processes, and take their steps together. In no other way does one
     order depend on another one.
@@ -159,7 +161,7 @@ class Orders(unittest.TestCase):
             scene.close()
 
     def check(self, order: str, scene: Scene) -> None:
-        """Each line that was accepted stands in the log once, under its number; each reply is that of its line; each other one was refused."""
+        """Checks that each accepted line is in the log once, under its number. Each reply is that of its line, and each other line was refused."""
         log = scene.logs[order]
         self.assertEqual([it[0] for it in log], list(range(1, len(log) + 1)), order)
         self.assertEqual([it[4] for it in log], [b'{"ok":%d}' % it for it in range(1, len(log) + 1)], order)
@@ -258,7 +260,7 @@ class Scene:
             self.worker._claim(documents[at : at + CLAIM])
 
     def serve(self, names: List[str]) -> None:
-        """Has the worker answer what waits for these documents."""
+        """Has the worker answer the waiting lines of these documents."""
         while waiting := self.waiting(names):
             self.worker.due.update(dict.fromkeys(set(waiting) & self.worker.held.keys()))
             self.claim([it for it in waiting if it not in self.worker.held])
@@ -278,7 +280,7 @@ class Scene:
         self.worker.connection.execute("update huckleport.documents set not_before = null, attempts = 0 where name = any (%s)", (self.orders,))
 
     def take(self, only: Optional[Client] = None) -> None:
-        """The clients take the replies that are there."""
+        """Has the clients take the replies that are there."""
         for client in self.clients if only is None else [only]:
             for name, document in client._documents.items():
                 document._read(time.monotonic() + 120)
