@@ -1,5 +1,6 @@
-"""Checks that each word of a clause or a definition is defined in specs, so that contracts are read without opening a proof, that no two crates define the
-same word, and that the definitions are read from front to back.
+"""Checks where the words of clauses and definitions are defined, and in which order definitions are read.
+
+Each word of a clause or a definition is defined in specs, so that contracts are read without opening a proof. No two crates define the same word.
 
 It reads the imports of crates/*/src (`ghost use`) and of crates/*/specs: none may name words of a file of proofs. In crates/dom_model/specs, Lib.antt and
 the file beside each folder name folders and files in reading order: a definition uses only words of its own file and of those before it.
