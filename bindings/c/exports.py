@@ -13,11 +13,11 @@ SOURCES = os.path.join(ROOT, "crates/dom_c/src")
 # The modules in the order in which a header is read. Others come behind them.
 ORDER = (
     "status version open_close lines borrowed_text reply_items labels rows notices records write_numbers positions node_creation tree_edits copies "
-    "node_queries neighbours borrowed_data counts character_data attributes live_ranges range_queries static_ranges range_contents traversal observers"
+    "node_queries neighbours subtree borrowed_data counts character_data attributes live_ranges range_queries static_ranges range_contents traversal observers"
 ).split()
 
 # The modules whose calls read or lend, and leave all that the session keeps.
-READING = set("borrowed_text reply_items labels rows notices records neighbours borrowed_data counts".split())
+READING = set("borrowed_text reply_items labels rows notices records neighbours subtree borrowed_data counts".split())
 
 SCALARS = {
     "u8": "uint8_t",

@@ -5,6 +5,7 @@
 - each dialogue of dialogues through hp_line, byte for byte, and again through the calls of the header, from Python and from C;
 - each call with a closed session, and wrong arguments;
 - the neighbours and the contents of a node, whose reading takes no memory, and a hundred thousand children removed one by one;
+- the nodes of a subtree, copied with any room and compared with single calls, also in a session that has ended;
 - the number of objects of each kind, as they are made and released, counted without taking memory;
 - released objects, which no call finds and which keep no tree, and the memory after a million of each kind;
 - each allocation refused in turn over all dialogues, and over one of the calls that copy names and texts;
@@ -194,6 +195,9 @@ class Tests:
         if self.alone("nearby", link=WRAPPED) is not None:
             self.must("a hundred thousand children removed, by the clock", os.path.join(self.work, "nearby"), "timed")
 
+    def subtree(self):
+        self.alone("subtree", link=WRAPPED)
+
     def counted(self):
         self.alone("counted", link=WRAPPED)
 
@@ -274,7 +278,7 @@ class Tests:
         return 1 if self.faults else 0
 
 
-PARTS = ("header", "lines", "typed", "closed", "misuse", "nearby", "counted", "released", "refused", "goes_on", "ended", "threads", "stacks", "example", "loading", "page")
+PARTS = ("header", "lines", "typed", "closed", "misuse", "nearby", "subtree", "counted", "released", "refused", "goes_on", "ended", "threads", "stacks", "example", "loading", "page")
 
 
 def main():

@@ -3,6 +3,7 @@ pub mod Utf8NameLemmas
 pub mod RulesFromLemmas
 pub mod IsReadOrEndedLemmas
 pub mod LaidOverLemmas
+pub mod Subtrees
 pub mod FaultLemmas
 pub mod AsksLemmas
 pub mod Spared

@@ -13,5 +13,6 @@ pub mod Rows
 pub mod Records
 pub mod Neighbours
 pub mod BorrowedData
+pub mod Subtree
 pub mod Counts
 pub mod Version

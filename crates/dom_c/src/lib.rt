@@ -34,6 +34,7 @@ pub mod session_slot;
 pub mod static_ranges;
 pub mod status;
 pub mod stored_state;
+pub mod subtree;
 pub mod traversal;
 pub mod tree_edits;
 pub mod version;

@@ -16,5 +16,6 @@ pub mod OtherKinds
 pub mod UnobservedLemmas
 pub mod ContentsAnswers
 pub mod LaidOverLemmas
+pub mod Subtrees
 pub mod KeepsWholeWorldLemmas
 pub mod GoingOn

@@ -8,6 +8,7 @@ pub mod TreeRows
 pub mod Codes
 pub mod Neighbours
 pub mod BorrowedData
+pub mod Subtree
 pub mod InUse
 pub mod OutOfMemory
 pub mod GoingOn
