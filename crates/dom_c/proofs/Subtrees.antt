@@ -2,7 +2,7 @@
 use Rattle.std.proofs.Common.{◌≡◌, ℕ, Bool, true, false, List, length, map, refl, ap, sym, subst, ◌∙◌, Option, Some, None, Result, Ok, Err}
 use Rattle.dom_model.specs.declared.OwnError.{OwnError}
 use Rattle.dom_model.specs.Definitions.{Forest, Content, World}
-use Rattle.dom_session.specs.{Neighbours.laid_over, BorrowedData.lent_as, Subtree.part_of, Subtree.part_in, Subtree.laid_where, Subtree.subtree_in, declared.subtree.SubtreeNode.SubtreeNode, declared.subtree.SubtreePart.SubtreePart}
+use Rattle.dom_session.specs.{Neighbours.laid_over, BorrowedData.lent_as, Subtree.subtree_part, Subtree.part_in, Subtree.laid_where, Subtree.subtree_in, declared.subtree.SubtreeNode.SubtreeNode, declared.subtree.SubtreePart.SubtreePart}
 use Rattle.dom_wire.specs.Sessions.{StandsFor, held_world}
 use Rattle.dom_c.specs.{BorrowedData.status_of_lent, BorrowedData.status_of_lent_at_end, BorrowedData.lent_or_before, BorrowedData.IsLentOrEnded, BorrowedData.LendsKept, declared.handle_state.HandleState.HandleState}
 
@@ -25,7 +25,7 @@ laid-told tell (Ok (Some nodes)) before = refl
 laid-told tell (Err e) before = refl
 
 told-of : {B : Type 0} (room : ℕ) (q : SubtreePart → B) (r : Result (Option (List SubtreeNode)) OwnError) (before : B)
-    → lent_or_before (lent_as q (lent_as (part_of room) r)) before ≡ lent_or_before (lent_as (λ (nodes : List SubtreeNode). q (part_of room nodes)) r) before
+    → lent_or_before (lent_as q (lent_as (subtree_part room) r)) before ≡ lent_or_before (lent_as (λ (nodes : List SubtreeNode). q (subtree_part room nodes)) r) before
 told-of room q (Ok None) before = refl
 told-of room q (Ok (Some nodes)) before = refl
 told-of room q (Err e) before = refl
@@ -43,11 +43,11 @@ module _ (k : HandleState) (o : Option HandleState) (is : o ≡ Some k) (status 
     where
       at : (b : Bool) → status ≡ status_at b found → IsLentOrEnded b (λ f. lent_as tell (subtree_in f root start)) k before after status
       at true s = record {
-        status_is = s ∙ ap (status_at true) own ∙ same-status true (part_of room) tell (subtree_in (held_world k.session).forest root start);
+        status_is = s ∙ ap (status_at true) own ∙ same-status true (subtree_part room) tell (subtree_in (held_world k.session).forest root start);
         lent_is = held;
       }
       at false s = record {
-        status_is = λ w st. s ∙ ap (status_at false) (shown w st) ∙ same-status false (part_of room) tell (subtree_in w.forest root start);
+        status_is = λ w st. s ∙ ap (status_at false) (shown w st) ∙ same-status false (subtree_part room) tell (subtree_in w.forest root start);
         lent_is = told;
       }
 
@@ -63,8 +63,8 @@ module _ (k : HandleState) (o : Option HandleState) (is : o ≡ Some k) (status 
 
   -- what is told of the part: how many there are, and which comes next
   pub lends-part : {B : Type 0} (q : SubtreePart → B) (before after : B) → after ≡ lent_or_before (lent_as q found) before
-      → LendsKept (λ f. lent_as (λ (nodes : List SubtreeNode). q (part_of room nodes)) (subtree_in f root start)) o before after status
+      → LendsKept (λ f. lent_as (λ (nodes : List SubtreeNode). q (subtree_part room nodes)) (subtree_in f root start)) o before after status
   lends-part q before after tells =
-      lends (λ nodes. q (part_of room nodes)) before after
+      lends (λ nodes. q (subtree_part room nodes)) before after
       (λ w st. tells ∙ ap (λ r. lent_or_before (lent_as q r) before) (shown w st) ∙ told-of room q (subtree_in w.forest root start) before)
       (tells ∙ ap (λ r. lent_or_before (lent_as q r) before) own ∙ told-of room q (subtree_in (held_world k.session).forest root start) before)

@@ -7,7 +7,7 @@ use Rattle.dom_model.specs.Worlds.World.{Content}
 use Rattle.dom_session.specs.declared.subtree.SubtreeNode.{SubtreeNode}
 use Rattle.dom_session.specs.Neighbours.{laid_over}
 use Rattle.dom_session.specs.BorrowedData.{lent_as}
-use Rattle.dom_session.specs.Subtree.{part_of, subtree_in}
+use Rattle.dom_session.specs.Subtree.{subtree_part, subtree_in}
 use Rattle.dom_c.specs.WrittenValues.{number_or_null}
 use Rattle.dom_c.specs.declared.subtree.SubtreeRow.{SubtreeRow}
 
@@ -20,8 +20,8 @@ rows_told root start before f = lent_as (λ (nodes : List SubtreeNode). laid_ove
 
 -- how many of them have room
 abbrev pub count_told : ℕ → ℕ → ℕ → Forest Content → Result (Option ℕ) OwnError
-count_told root start room f = lent_as (λ (nodes : List SubtreeNode). (part_of room nodes).count) (subtree_in f root start)
+count_told root start room f = lent_as (λ (nodes : List SubtreeNode). (subtree_part room nodes).count) (subtree_in f root start)
 
 -- the node that comes after those
 abbrev pub next_told : ℕ → ℕ → ℕ → Forest Content → Result (Option ℕ) OwnError
-next_told root start room f = lent_as (λ (nodes : List SubtreeNode). number_or_null (part_of room nodes).next) (subtree_in f root start)
+next_told root start room f = lent_as (λ (nodes : List SubtreeNode). number_or_null (subtree_part room nodes).next) (subtree_in f root start)

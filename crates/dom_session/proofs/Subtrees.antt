@@ -5,7 +5,7 @@ use Rattle.dom_model.specs.Definitions.{Entry, hits, among, after, from_first, p
 use Rattle.dom_model.proofs.Forests.ToTheRoot.{inside-same}
 use Rattle.dom_model.proofs.Forests.TreeOrder.InsideWalks.{IsAt, at-next, here-inside, rest-next, rest-end}
 use Rattle.dom_session.specs.Neighbours.{laid_over}
-use Rattle.dom_session.specs.Subtree.{node_of, node_before, nodes_of, part_of, subtree_from}
+use Rattle.dom_session.specs.Subtree.{node_of, node_before, nodes_of, subtree_part, subtree_from}
 use Rattle.dom_session.specs.declared.subtree.SubtreeNode.{SubtreeNode}
 use Rattle.dom_session.specs.declared.subtree.SubtreePart.{SubtreePart}
 use Rattle.dom_session.proofs.LaidOverLemmas.{laid_over-set, laid_over-full, laid_over-all}
@@ -81,7 +81,7 @@ module _ {X R : Type 0} (g : Grove X) (s : IsForest g) (root start : ℕ) (tell 
           within = rw (length-set now count (tell x)) (omega (arith, inside));
         }
 
-    pub copied-part : after here (inclusive_descendants g.forest root) ≡ None → count < length now → part (count + 1) None ≡ part_of (length old) (subtree_from g.forest root start)
+    pub copied-part : after here (inclusive_descendants g.forest root) ≡ None → count < length now → part (count + 1) None ≡ subtree_part (length old) (subtree_from g.forest root start)
     copied-part e inside =
         let nodes = subtree_from g.forest root start in
         let one = ap length (c.left ∙ met [] (rest-end g s root here c.at e)) in
@@ -94,13 +94,13 @@ module _ {X R : Type 0} (g : Grove X) (s : IsForest g) (root start : ℕ) (tell 
     copied-all e inside = sym (laid-next [] (rest-end g s root here c.at e) inside ∙ laid_over-all (slice_set now count (tell x)) (count + 1))
 
   module _ (now : List R) (here count : ℕ) (c : IsCopying g.forest root start tell old now here count) (full : count ≡ length now) where
-    pub full-part : part count (Some here) ≡ part_of (length old) (subtree_from g.forest root start)
+    pub full-part : part count (Some here) ≡ subtree_part (length old) (subtree_from g.forest root start)
     full-part =
         let nodes = subtree_from g.forest root start in
         let all = inclusive_descendants g.forest root in
         let h = node-next g.forest here (past here all) nodes count c.at.there (c.left ∙ ap (nodes_of g.forest) (from-here here all (here-inside g s root here c.at))) in
         let least : min (length nodes) count ≡ count = omega (arith, h.1) in
-        subst (λ k. part count (Some here) ≡ part_of k nodes) (full ∙ c.same) (ap (λ k. part k (Some here)) (sym least) ∙ ap (part (min (length nodes) count)) (sym h.0))
+        subst (λ k. part count (Some here) ≡ subtree_part k nodes) (full ∙ c.same) (ap (λ k. part k (Some here)) (sym least) ∙ ap (part (min (length nodes) count)) (sym h.0))
 
     pub full-copied : now ≡ laid_over (map tell (subtree_from g.forest root start)) old
     full-copied = sym (c.laid ∙ laid_over-full (map tell (nodes_of g.forest (from_first here (inclusive_descendants g.forest root)))) now count full)

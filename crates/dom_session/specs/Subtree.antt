@@ -11,8 +11,8 @@ use Rattle.dom_session.specs.declared.subtree.SubtreeNode.{SubtreeNode}
 use Rattle.dom_session.specs.declared.subtree.SubtreePart.{SubtreePart}
 
 -- how many nodes have room, and the node that comes after them
-abbrev pub part_of : ℕ → List SubtreeNode → SubtreePart
-part_of room nodes = record {
+abbrev pub subtree_part : ℕ → List SubtreeNode → SubtreePart
+subtree_part room nodes = record {
   count = min (length nodes) room;
   next = option_map (λ (x : SubtreeNode). x.node) (slice_get nodes room);
 }
@@ -54,7 +54,7 @@ module _ {X : Type 0} where
       (if among start (inclusive_descendants f root) then Some (subtree_from f root start) else None)
 
   abbrev pub part_in : ℕ → Forest X → ℕ → ℕ → Result (Option SubtreePart) OwnError
-  part_in room f root start = lent_as (part_of room) (subtree_in f root start)
+  part_in room f root start = lent_as (subtree_part room) (subtree_in f root start)
 
   abbrev pub laid_in : {R : Type 0} → (SubtreeNode → R) → Forest X → ℕ → ℕ → List R → List R
   laid_in tell f root start before = laid_where tell (subtree_in f root start) before

@@ -4,7 +4,7 @@ ghost use Rattle.std.specs.Prelude.{◌≡◌, true, length, map, IfSome};
 ghost use Rattle.dom_model.specs.PlainLists.Lists.{among};
 ghost use Rattle.dom_model.specs.Forests.Forest.{HasNode, entry_in, inclusive_descendants};
 ghost use Rattle.dom_session.specs.Neighbours.{laid_over};
-ghost use Rattle.dom_session.specs.Subtree.{node_of, part_of, subtree_from, part_in, laid_in};
+ghost use Rattle.dom_session.specs.Subtree.{node_of, subtree_part, subtree_from, part_in, laid_in};
 
 use dom_kinds::Kind;
 use dom_model::OwnError;
@@ -63,7 +63,7 @@ fn lay_over<X, R: NodeRow>(
 ) -> SubtreePart
     requires held { HasNode tree.now.forest start }
     requires inside { among start (inclusive_descendants tree.now.forest root) ≡ true }
-    ensures part { result ≡ part_of (length into.old) (subtree_from tree.now.forest root start) }
+    ensures part { result ≡ subtree_part (length into.old) (subtree_from tree.now.forest root start) }
     ensures copied { into.new
         ≡ laid_over (map R.row_of (subtree_from tree.now.forest root start)) into.old }
 {
