@@ -1,4 +1,4 @@
-/* The nodes of a subtree, copied: the rows are those that single calls tell, whatever the room, and no memory is taken; so it is once the
+/* The nodes of a subtree, copied: the rows are those of single calls, whatever the room, and no memory is taken. So it is once the
  * session has ended. Linked with --wrap for malloc, realloc and free. */
 #include "refusing.h"
 #include "wanting.h"
@@ -131,7 +131,7 @@ static void all(void)
 
 int main(void)
 {
-    uint32_t made = 7;
+    static const uint16_t units[64];
     size_t told = 7;
     build();
     WANT(hp_children(&session, 1) == HP_OK);
@@ -140,9 +140,10 @@ int main(void)
     counts = false;
     WANT(asked == 0);
     WANT(hp_count(&session, &told) == HP_OK && told == 2);
+    /* (the first allocation is for the copied text) */
     do
-        refuse(1);
-    while (hp_create_element(&session, 0, hp_name("c"), &made) == HP_OK);
+        refuse(2);
+    while (hp_append_data(&session, 5, units, 64) == HP_OK);
     counts = false;
     found = HP_ENDED;
     all();
