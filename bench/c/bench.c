@@ -116,6 +116,23 @@ static uint64_t walker(uint32_t count)
     return seen;
 }
 
+/* Copies a tree, in rows of a thousand nodes. */
+static uint64_t subtree(uint32_t count)
+{
+    static hp_subtree_row rows[1000];
+    uint32_t next = 1;
+    uint64_t seen = 0;
+    size_t copied;
+    tree(count);
+    begin();
+    while (next != HP_NONE) {
+        must(hp_subtree_into(&session, 1, next, rows, 1000, &copied, &next));
+        seen += copied;
+    }
+    end();
+    return seen;
+}
+
 /* A Text of 2,000 units, and 1,000 live ranges in it. */
 static uint32_t ranges(void)
 {
@@ -198,6 +215,7 @@ static const struct scene scenes[] = {
     { "moving", moving },
     { "iterator", iterator },
     { "walker", walker },
+    { "subtree", subtree },
     { "beside-1000-ranges", beside_ranges },
     { "within-1000-ranges", within_ranges },
     { "observed", observed },

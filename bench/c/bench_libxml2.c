@@ -105,6 +105,7 @@ static const struct scene scenes[] = {
     { "moving", moving },
     { "iterator", walk },
     { "walker", walk },
+    { "subtree", walk },
 };
 
 int main(int count, char **words)
