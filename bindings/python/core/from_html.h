@@ -103,6 +103,7 @@ static bool add_below(Builder *it, const Theirs *top)
 {
     const Theirs *node = top->children;
     bool done = true;
+    memory_own();
     while (done && node && node != top) {
         done = add_theirs(it, node);
         if (done && node->type == THEIR_ELEMENT && node->children) {
@@ -116,7 +117,9 @@ static bool add_below(Builder *it, const Theirs *top)
         }
         node = node->next;
     }
-    return done && put_text(it);
+    done = done && put_text(it);
+    memory_release();
+    return done;
 }
 
 /* Whether a comment stands before the root. */

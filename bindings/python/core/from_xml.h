@@ -50,18 +50,22 @@ typedef struct {
 static void on_start(void *data, const char *name, const char **attributes)
 {
     Xml *it = data;
+    memory_own();
     it->is_whole = it->is_whole && start_element(it->builder, name);
     for (; it->is_whole && *attributes; attributes += 2)
         it->is_whole = value_of(it->builder, attributes[1]) && add_attribute(it->builder, attributes[0]);
     if (it->is_whole)
         end_attributes(it->builder);
+    memory_release();
 }
 
 static void on_end(void *data, const char *name)
 {
     Xml *it = data;
     (void)name;
+    memory_own();
     it->is_whole = it->is_whole && end_element(it->builder);
+    memory_release();
 }
 
 static void on_text(void *data, const char *text, int length)

@@ -6,6 +6,7 @@
 #define HUCKLEPORT_LEAVING_H
 
 #include "labels.h"
+#include "memory.h"
 #include "table.h"
 
 /* Numbers of nodes, and then the kind of each. */
@@ -298,6 +299,14 @@ static void release_noted(Calls *it, uint32_t family)
     leaving_clear(noted);
 }
 
+static uint8_t discarded(hp_session *session, uint32_t node)
+{
+    memory_own();
+    uint8_t status = hp_discard(session, node);
+    memory_release();
+    return status;
+}
+
 /* Discards the tree of a root, unless it is held or in use. A node that stands in a tree goes with that one. */
 static void discard_noted(Calls *it, uint32_t node)
 {
@@ -306,7 +315,7 @@ static void discard_noted(Calls *it, uint32_t node)
     if (is_found_again(it, node, FAMILY_NODE) || hp_links(&it->session, node, &links) != HP_OK || links.parent != HP_NONE)
         return;
     moved(it);
-    if (is_held(it, node, &steps) || hp_discard(&it->session, node) == HP_IN_USE) {
+    if (is_held(it, node, &steps) || discarded(&it->session, node) == HP_IN_USE) {
         leaving_push(&it->held, node);
         it->steps += steps;
     }

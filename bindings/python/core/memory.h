@@ -1,11 +1,17 @@
 /* The library's memory: its calls of malloc, realloc and free are linked to these (--wrap). Blocks of a size stand side by side in slabs, and one
- * that is freed is the next to be taken. A long call runs without the lock of the interpreter, so there is a lock here. */
+ * that is freed is the next to be taken. A long call runs without the lock of the interpreter, so there is a lock here. A thread may own it for a
+ * whole call, and releases it amid the call if another thread wants it. */
 #ifndef HUCKLEPORT_MEMORY_H
 #define HUCKLEPORT_MEMORY_H
 
 #include "core.h"
 
+#include <pthread.h>
 #include <sched.h>
+
+#ifndef __has_builtin
+#define __has_builtin(name) 0
+#endif
 
 void *__real_malloc(size_t size);
 void *__real_realloc(void *at, size_t size);
@@ -24,18 +30,21 @@ typedef struct Block {
 } Block;
 
 /* Freed blocks by their sizes; the slabs, each of which begins with the next, and those that are spare; where the last goes on and ends; and how
- * many blocks are in use. */
+ * many blocks are in use. Then the lock; the thread that owns it for a call, or 0; and whether another thread wants it. */
 static struct {
     Block *free[MOST_GRAINS];
     Block *slabs, *spare;
     char *at, *end;
     size_t used;
     bool is_locked;
+    uintptr_t owner;
+    bool is_wanted;
 } memory;
 
 static void memory_lock(void)
 {
     for (int tries = 0; __atomic_test_and_set(&memory.is_locked, __ATOMIC_ACQUIRE); tries++) {
+        __atomic_store_n(&memory.is_wanted, true, __ATOMIC_RELAXED);
         if (tries % 64 == 63)
             sched_yield();
     }
@@ -44,6 +53,55 @@ static void memory_lock(void)
 static void memory_unlock(void)
 {
     __atomic_clear(&memory.is_locked, __ATOMIC_RELEASE);
+}
+
+/* What tells this thread from others, and is not 0. */
+static inline uintptr_t this_thread(void)
+{
+#if __has_builtin(__builtin_thread_pointer)
+    return (uintptr_t)__builtin_thread_pointer();
+#else
+    return (uintptr_t)pthread_self();
+#endif
+}
+
+/* Whether this thread owns the lock: no other thread writes this one's identity. */
+static inline bool is_memory_owned(void)
+{
+    uintptr_t owner = __atomic_load_n(&memory.owner, __ATOMIC_RELAXED);
+    return owner && owner == this_thread();
+}
+
+/* Takes the lock for a call, which runs no code of Python and waits for no other lock. */
+static void memory_own(void)
+{
+    if (!is_memory_owned())
+        memory_lock();
+    __atomic_store_n(&memory.is_wanted, false, __ATOMIC_RELAXED);
+    __atomic_store_n(&memory.owner, this_thread(), __ATOMIC_RELAXED);
+}
+
+/* Releases the lock at the end of a call, or amid it. */
+static void memory_release(void)
+{
+    if (!is_memory_owned())
+        return;
+    __atomic_store_n(&memory.owner, 0, __ATOMIC_RELAXED);
+    memory_unlock();
+}
+
+/* Takes the lock for one block. If another thread waits for it, it is owned no more. */
+static bool memory_lock_once(void)
+{
+    memory_release();
+    memory_lock();
+    return true;
+}
+
+/* Returns whether the lock was taken for one block, so that it is released then. */
+static inline bool is_memory_locked(void)
+{
+    return !is_memory_owned() || __atomic_load_n(&memory.is_wanted, __ATOMIC_RELAXED) ? memory_lock_once() : false;
 }
 
 static size_t *word_of(void *at)
@@ -76,16 +134,20 @@ static void *block_made(size_t grains)
     return found;
 }
 
+/* The block that is taken next of its size is fetched into the cache, since what it begins with is read then. */
 static void *block_taken(size_t grains)
 {
-    memory_lock();
+    bool is_locked = is_memory_locked();
     Block *found = memory.free[grains];
-    if (found)
+    if (found) {
         memory.free[grains] = found->next;
-    else
+        __builtin_prefetch(found->next, 1);
+    } else {
         found = block_made(grains);
+    }
     memory.used += found != NULL;
-    memory_unlock();
+    if (is_locked)
+        memory_unlock();
     return found;
 }
 
@@ -119,11 +181,12 @@ static void slabs_freed(Block *slabs)
 
 static void block_left(Block *it, size_t grains)
 {
-    memory_lock();
+    bool is_locked = is_memory_locked();
     it->next = memory.free[grains];
     memory.free[grains] = it;
     Block *slabs = --memory.used ? NULL : slabs_left();
-    memory_unlock();
+    if (is_locked)
+        memory_unlock();
     slabs_freed(slabs);
 }
 

@@ -163,7 +163,9 @@ static void calls_dealloc(PyObject *self)
 {
     PyTypeObject *type = Py_TYPE(self);
     Calls *it = (Calls *)self;
+    memory_own();
     hp_close(&it->session);
+    memory_release();
     drop_taken(it);
     table_drop(&it->kept);
     labels_drop(&it->labels);
