@@ -84,7 +84,7 @@ static bool units_push(Units *it, const char *from, size_t length)
         size_t room = 2 * it->room + length + 256;
         uint16_t *wider = PyMem_Realloc(it->at, room * sizeof(uint16_t));
         if (!wider)
-            return PyErr_NoMemory() != NULL;
+            return out_of_memory();
         it->at = wider;
         it->room = room;
     }
@@ -138,6 +138,7 @@ static bool put_in(Builder *it, uint32_t node)
     uint8_t status = hp_append_child(&it->calls->session, parent, node);
     if (status == HP_OK)
         return true;
+    memory_release();
     PyObject *number = PyLong_FromUnsignedLong(node);
     if (number)
         builder_refused(it, status, "append_child", parent, number);

@@ -63,7 +63,7 @@ static bool add_prefixed(Builder *it, const char *prefix, const char *name)
     size_t first = strlen(prefix), length = strlen(name);
     char *whole = PyMem_Malloc(first + length + 2);
     if (!whole)
-        return PyErr_NoMemory() != NULL;
+        return out_of_memory();
     memcpy(whole, prefix, first);
     whole[first] = ':';
     memcpy(whole + first + 1, name, length + 1);

@@ -116,7 +116,7 @@ static bool order_push(Order *it, uint32_t number, size_t depth, uint8_t kind)
         size_t room = it->room ? 2 * it->room : 32;
         Ranked *wider = depth < 1 << 28 ? PyMem_Realloc(it->at, room * sizeof(Ranked)) : NULL;
         if (!wider)
-            return PyErr_NoMemory() != NULL;
+            return out_of_memory();
         it->at = wider;
         it->room = room;
     }

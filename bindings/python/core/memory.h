@@ -90,6 +90,20 @@ static void memory_release(void)
     memory_unlock();
 }
 
+/* Raises MemoryError, and returns false. The lock is released before, since code of Python may run when an exception is raised. */
+static bool out_of_memory(void)
+{
+    memory_release();
+    return PyErr_NoMemory() != NULL;
+}
+
+/* Makes each fork take the lock, which another thread may own, so that it is free in the child. Returns false if there was no memory for that. */
+static bool is_ready_for_forks(void)
+{
+    static bool is_registered;
+    return __atomic_test_and_set(&is_registered, __ATOMIC_RELAXED) || pthread_atfork(memory_lock, memory_unlock, memory_unlock) == 0;
+}
+
 /* Takes the lock for one block. If another thread waits for it, it is owned no more. */
 static bool memory_lock_once(void)
 {
