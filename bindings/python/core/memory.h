@@ -21,7 +21,7 @@ void *__wrap_realloc(void *at, size_t size);
 void __wrap_free(void *at);
 
 /* A block is so many grains, of which a word ahead of what is handed out tells how many: none for one that malloc has made. */
-enum { GRAIN = 16, WORD = 8, MOST_GRAINS = 33, SLAB = 1 << 18 };
+enum { GRAIN = 16, WORD = 8, MOST_GRAINS = 33, MOST_SIZE = GRAIN * (MOST_GRAINS - 1) - WORD, SLAB = 1 << 18 };
 /* So many slabs stay for later when no block is in use: 16 MB. */
 enum { MOST_SPARE = 64 };
 
@@ -68,17 +68,27 @@ static inline uintptr_t this_thread(void)
 /* Whether this thread owns the lock: no other thread writes this one's identity. */
 static inline bool is_memory_owned(void)
 {
-    uintptr_t owner = __atomic_load_n(&memory.owner, __ATOMIC_RELAXED);
-    return owner && owner == this_thread();
+    return __atomic_load_n(&memory.owner, __ATOMIC_RELAXED) == this_thread();
 }
 
-/* Takes the lock for a call, which runs no code of Python and waits for no other lock. */
-static void memory_own(void)
+/* Whether this thread owns the lock, and no other thread waits for it. */
+static inline bool is_memory_mine(void)
 {
-    if (!is_memory_owned())
-        memory_lock();
+    return is_memory_owned() && !__atomic_load_n(&memory.is_wanted, __ATOMIC_RELAXED);
+}
+
+static __attribute__((noinline)) void memory_taken(void)
+{
+    memory_lock();
     __atomic_store_n(&memory.is_wanted, false, __ATOMIC_RELAXED);
     __atomic_store_n(&memory.owner, this_thread(), __ATOMIC_RELAXED);
+}
+
+/* Takes the lock, unless this thread owns it, for calls that run no code of Python and wait for no other lock. */
+static inline void memory_own(void)
+{
+    if (!is_memory_owned())
+        memory_taken();
 }
 
 /* Releases the lock at the end of a call, or amid it. */
@@ -105,17 +115,10 @@ static bool is_ready_for_forks(void)
 }
 
 /* Takes the lock for one block. If another thread waits for it, it is owned no more. */
-static bool memory_lock_once(void)
+static void memory_lock_once(void)
 {
     memory_release();
     memory_lock();
-    return true;
-}
-
-/* Returns whether the lock was taken for one block, so that it is released then. */
-static inline bool is_memory_locked(void)
-{
-    return !is_memory_owned() || __atomic_load_n(&memory.is_wanted, __ATOMIC_RELAXED) ? memory_lock_once() : false;
 }
 
 static size_t *word_of(void *at)
@@ -138,30 +141,34 @@ static bool slab_made(void)
 }
 
 /* A new block at the end of the last slab. What is left of a slab that has no room for it stays unused until all slabs go. */
-static void *block_made(size_t grains)
+static __attribute__((noinline)) void *block_made(size_t grains)
 {
     if ((size_t)(memory.end - memory.at) < (grains + 1) * GRAIN && !slab_made())
         return NULL;
     void *found = memory.at + GRAIN;
     memory.at += grains * GRAIN;
+    memory.used++;
     *word_of(found) = grains;
     return found;
 }
 
-/* The block that is taken next of its size is fetched into the cache, since what it begins with is read then. */
-static void *block_taken(size_t grains)
+/* Takes a block under the lock. That which is taken next of its size is fetched into the cache, since what it begins with is read then. */
+static inline void *block_taken(size_t grains)
 {
-    bool is_locked = is_memory_locked();
     Block *found = memory.free[grains];
-    if (found) {
-        memory.free[grains] = found->next;
-        __builtin_prefetch(found->next, 1);
-    } else {
-        found = block_made(grains);
-    }
-    memory.used += found != NULL;
-    if (is_locked)
-        memory_unlock();
+    if (!found)
+        return block_made(grains);
+    memory.free[grains] = found->next;
+    __builtin_prefetch(found->next, 1);
+    memory.used++;
+    return found;
+}
+
+static __attribute__((noinline)) void *block_taken_once(size_t grains)
+{
+    memory_lock_once();
+    void *found = block_taken(grains);
+    memory_unlock();
     return found;
 }
 
@@ -193,14 +200,19 @@ static void slabs_freed(Block *slabs)
     }
 }
 
-static void block_left(Block *it, size_t grains)
+/* Puts a block among the free ones, under the lock. Returns whether no block is in use then. */
+static inline bool is_last_left(Block *it, size_t grains)
 {
-    bool is_locked = is_memory_locked();
     it->next = memory.free[grains];
     memory.free[grains] = it;
-    Block *slabs = --memory.used ? NULL : slabs_left();
-    if (is_locked)
-        memory_unlock();
+    return --memory.used == 0;
+}
+
+static __attribute__((noinline)) void block_left_once(Block *it, size_t grains)
+{
+    memory_lock_once();
+    Block *slabs = is_last_left(it, grains) ? slabs_left() : NULL;
+    memory_unlock();
     slabs_freed(slabs);
 }
 
@@ -213,21 +225,36 @@ static void *large_made(char *found)
     return found + GRAIN;
 }
 
+/* (What is seldom done is a function of its own, so that the usual way saves no registers.) */
+static __attribute__((noinline)) void *large_taken(size_t size)
+{
+    return size > SIZE_MAX - GRAIN ? NULL : large_made(__real_malloc(size + GRAIN));
+}
+
 void *__wrap_malloc(size_t size)
 {
-    size_t grains = size > GRAIN * MOST_GRAINS ? MOST_GRAINS : (size + WORD + GRAIN - 1) / GRAIN;
-    if (grains < MOST_GRAINS)
-        return block_taken(grains);
-    return size > SIZE_MAX - GRAIN ? NULL : large_made(__real_malloc(size + GRAIN));
+    size_t grains = (size + WORD + GRAIN - 1) / GRAIN;
+    if (size > MOST_SIZE)
+        return large_taken(size);
+    return is_memory_mine() ? block_taken(grains) : block_taken_once(grains);
+}
+
+static __attribute__((noinline)) void slabs_left_and_freed(void)
+{
+    slabs_freed(slabs_left());
 }
 
 void __wrap_free(void *at)
 {
     size_t grains = at ? *word_of(at) : 0;
-    if (grains)
-        block_left(at, grains);
-    else if (at)
+    if (!at)
+        return;
+    if (!grains)
         __real_free((char *)at - GRAIN);
+    else if (!is_memory_mine())
+        block_left_once(at, grains);
+    else if (is_last_left(at, grains))
+        slabs_left_and_freed();
 }
 
 void *__wrap_realloc(void *at, size_t size)
