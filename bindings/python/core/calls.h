@@ -806,6 +806,8 @@ static PyObject *call_import_node(PyObject *self, PyObject *words)
         memory_release();
         if (thread)
             end_long((Calls *)self, thread);
+        if (deep && !status)
+            ((Calls *)self)->copied = copy;
         found = status ? refused(status, "import_node", self, words) : PyLong_FromUnsignedLong(copy);
     }
     return found;
@@ -827,6 +829,8 @@ static PyObject *call_clone_node(PyObject *self, PyObject *words)
         memory_release();
         if (thread)
             end_long((Calls *)self, thread);
+        if (deep && !status)
+            ((Calls *)self)->copied = copy;
         found = status ? refused(status, "clone_node", self, words) : PyLong_FromUnsignedLong(copy);
     }
     return found;

@@ -68,6 +68,8 @@ typedef struct {
     Labels labels;
     /* The tree that was gone through last. It is kept as long as nothing moves in the session. */
     Order order;
+    /* The root of the last deep copy, as long as nothing moves: the nodes of its tree have numbers from its own on. Or HP_NONE. */
+    uint32_t copied;
     /* Counts what may have let nodes go: what is known of them is asked for anew then. */
     uint32_t epoch;
     /* What was noted, by families, and whether there is any; and the roots of trees that were held or in use when they were tried. */
@@ -127,6 +129,7 @@ static bool order_push(Order *it, uint32_t number, size_t depth, uint8_t kind)
 /* Tells that nodes may move. */
 static void moved(Calls *it)
 {
+    it->copied = HP_NONE;
     if (it->order.at)
         order_drop(&it->order);
 }
@@ -274,6 +277,12 @@ static bool is_held(Calls *it, uint32_t root, size_t *steps)
     return false;
 }
 
+/* Whether a tree is a copy that is as it was made, and no object refers to a node of it or to a later one. */
+static bool is_free_copy(const Calls *it, uint32_t root)
+{
+    return it->copied == root && !it->waiting && is_none_from(&it->kept.nodes, root);
+}
+
 /* ---- letting go */
 
 typedef uint8_t Release(hp_session *, uint32_t);
@@ -314,8 +323,9 @@ static void discard_noted(Calls *it, uint32_t node)
     size_t steps = 0;
     if (is_found_again(it, node, FAMILY_NODE) || hp_links(&it->session, node, &links) != HP_OK || links.parent != HP_NONE)
         return;
+    bool is_free = is_free_copy(it, node);
     moved(it);
-    if (is_held(it, node, &steps) || discarded(&it->session, node) == HP_IN_USE) {
+    if ((!is_free && is_held(it, node, &steps)) || discarded(&it->session, node) == HP_IN_USE) {
         leaving_push(&it->held, node);
         it->steps += steps;
     }

@@ -154,8 +154,10 @@ static PyObject *calls_new(PyTypeObject *type, PyObject *words, PyObject *named)
     (void)named;
     State *state = state_of_type(type);
     PyObject *found = state ? PyType_GenericAlloc(type, 0) : NULL;
-    if (found)
+    if (found) {
         ((Calls *)found)->state = state_held(state);
+        ((Calls *)found)->copied = HP_NONE;
+    }
     return found;
 }
 
