@@ -19,7 +19,7 @@ typedef struct {
     Calls *calls;
     /* The document of what is made, and the node under which it comes. */
     uint32_t document, root;
-    /* Whether attributes are left out that the library refuses. */
+    /* Whether attributes and instructions are left out whose names the library refuses. */
     bool is_lenient;
     /* The elements that are open, each without a parent; and the root with all that was made below it. */
     Numbers open;
@@ -167,6 +167,12 @@ static bool put_text(Builder *it)
     return put_in_leaf(it, node, KIND_TEXT);
 }
 
+/* Whether a name was refused, and what has it is left out. */
+static bool is_left_out(const Builder *it, uint8_t status)
+{
+    return it->is_lenient && (status == HP_INVALID_CHARACTER_ERROR || status == HP_NOT_UTF8);
+}
+
 /* Sets an attribute of the innermost open element. */
 static bool add_attribute(Builder *it, const char *name)
 {
@@ -175,9 +181,7 @@ static bool add_attribute(Builder *it, const char *name)
     uint8_t status = hp_set_attribute(&it->calls->session, element, (const uint8_t *)name, length, it->value.at, it->value.length);
     if (!status)
         it->shape = shape_with(&it->calls->labels, it->shape, name, length);
-    if (!status || (it->is_lenient && (status == HP_INVALID_CHARACTER_ERROR || status == HP_NOT_UTF8)))
-        return true;
-    return name_refused(it, status, "set_attribute", element, name);
+    return !status || is_left_out(it, status) || name_refused(it, status, "set_attribute", element, name);
 }
 
 /* An element, which gets its attributes next. */
@@ -225,7 +229,9 @@ static bool add_instruction(Builder *it, const char *target, const char *data)
     if (!put_text(it) || !value_of(it, data))
         return false;
     uint8_t status = hp_create_pi(&it->calls->session, it->document, (const uint8_t *)target, strlen(target), it->value.at, it->value.length, &node);
-    return status ? name_refused(it, status, "create_pi", it->document, target) : put_in_leaf(it, node, KIND_PROCESSING_INSTRUCTION);
+    if (status)
+        return is_left_out(it, status) || name_refused(it, status, "create_pi", it->document, target);
+    return put_in_leaf(it, node, KIND_PROCESSING_INSTRUCTION);
 }
 
 /* A name and ids; null stands for an empty one. */
