@@ -244,6 +244,7 @@ def over_pages(count):
     yield "serialize HTML", lambda: h.html.serialize(html_document), lambda: etree.tostring(html_tree, encoding="unicode", method="html"), None
     yield f"parse XML of {len(text) / 1e6:.1f} MB", lambda: h.xml.parse(text), lambda: etree.fromstring(text), lambda: minidom.parseString(text)
     yield f"parse HTML of {len(text) / 1e6:.1f} MB, by {h.html.PARSER}", lambda: h.html.parse(text), lambda: etree.fromstring(text, etree.HTMLParser()), None
+    yield "parse the same by lxml's parser", lambda: h.html.parse(text, parser="lxml"), lambda: etree.fromstring(text, etree.HTMLParser()), None
 
 
 def beside_others(count):

@@ -156,13 +156,15 @@ def answer_of(outs, read):
 
 
 def made_call(name, calls, call, indent):
-    """What makes a call, and lets other threads run meanwhile where it may take long."""
+    """What makes a call. One that may take long lets other threads run meanwhile, and owns the lock of memory. A deep copy is noted."""
     if name not in LONG:
         return f"{indent}uint8_t status = {call};\n"
     is_long = LONG[name]
     thread = f"begin_long({calls})" if is_long is None else f"{is_long} ? begin_long({calls}) : NULL"
     end = f"{indent}end_long({calls}, thread);\n" if is_long is None else f"{indent}if (thread)\n{indent}    end_long({calls}, thread);\n"
-    return f"{indent}PyThreadState *thread = {thread};\n{indent}uint8_t status = {call};\n" + end
+    call = f"{indent}memory_own();\n{indent}uint8_t status = {call};\n{indent}memory_release();\n"
+    copied = f"{indent}if ({is_long} && !status)\n{indent}    ({calls})->copied = copy;\n" if is_long else ""
+    return f"{indent}PyThreadState *thread = {thread};\n{call}{end}{copied}"
 
 
 def body(parts, reads, call, answer, refusal):

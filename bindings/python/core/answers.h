@@ -21,7 +21,7 @@ static bool numbers_push(Numbers *it, uint32_t number)
         size_t room = it->room ? 2 * it->room : 32;
         uint32_t *wider = PyMem_Realloc(it->at, room * sizeof(uint32_t));
         if (!wider)
-            return PyErr_NoMemory() != NULL;
+            return out_of_memory();
         it->at = wider;
         it->room = room;
     }

@@ -6,6 +6,7 @@
 
 #include "course.h"
 #include "members.h"
+#include "memory.h"
 
 /* Units that grow. */
 typedef struct {
@@ -18,13 +19,13 @@ typedef struct {
     Calls *calls;
     /* The document of the new nodes, and the node under which they are put. */
     uint32_t document, root;
-    /* Whether attributes are left out that the library refuses. */
+    /* Whether attributes and instructions are left out whose names the library refuses. */
     bool is_lenient;
     /* The elements that are open, each without a parent; and the root with all that was made below it. */
     Numbers open;
     Order order;
-    /* The names of the attributes that the element has whose start tag is read. */
-    unsigned shape;
+    /* The name of the element whose start tag is read, and those of the attributes that it has. */
+    unsigned label, shape;
     /* The text that is not put in yet, and the value of an attribute or what else a call is handed. */
     Units text, value;
 } Builder;
@@ -48,18 +49,26 @@ static size_t character_of(const uint8_t *octets, size_t length, Py_UCS4 *to)
     return fits ? size : 1;
 }
 
-/* Characters below 128 as units, up to the first other. */
+/* Eight characters below 128 as units; or none, if one of them is another. */
+static bool push_eight(uint16_t *to, const uint8_t *octets)
+{
+    uint64_t eight;
+    memcpy(&eight, octets, 8);
+    if (eight & 0x8080808080808080u)
+        return false;
+    for (int part = 0; part < 8; part++)
+        to[part] = octets[part];
+    return true;
+}
+
+/* Characters below 128 as units, up to the first other. The last eight are taken at once, also if some of them were taken before. */
 static size_t push_narrow(uint16_t *to, const uint8_t *octets, size_t length)
 {
     size_t at = 0;
-    for (; at + 8 <= length; at += 8) {
-        uint64_t eight;
-        memcpy(&eight, octets + at, 8);
-        if (eight & 0x8080808080808080u)
-            break;
-        for (int part = 0; part < 8; part++)
-            to[at + part] = octets[at + part];
-    }
+    while (at + 8 <= length && push_eight(to + at, octets + at))
+        at += 8;
+    if (length > 8 && at < length && at + 8 > length && push_eight(to + length - 8, octets + length - 8))
+        return length;
     while (at < length && octets[at] < 0x80) {
         to[at] = octets[at];
         at++;
@@ -75,7 +84,7 @@ static bool units_push(Units *it, const char *from, size_t length)
         size_t room = 2 * it->room + length + 256;
         uint16_t *wider = PyMem_Realloc(it->at, room * sizeof(uint16_t));
         if (!wider)
-            return PyErr_NoMemory() != NULL;
+            return out_of_memory();
         it->at = wider;
         it->room = room;
     }
@@ -104,6 +113,7 @@ static bool value_of(Builder *it, const char *from)
 /* Raises what a status says of a call, with the number or the name that it was handed. */
 static bool builder_refused(Builder *it, uint8_t status, const char *call, uint32_t first, PyObject *second)
 {
+    memory_release();
     PyObject *words = Py_BuildValue("(kO)", (unsigned long)first, second ? second : Py_None);
     if (words)
         refused(status, call, (PyObject *)it->calls, words);
@@ -113,6 +123,7 @@ static bool builder_refused(Builder *it, uint8_t status, const char *call, uint3
 
 static bool name_refused(Builder *it, uint8_t status, const char *call, uint32_t first, const char *name)
 {
+    memory_release();
     PyObject *second = PyUnicode_DecodeUTF8(name, (Py_ssize_t)strlen(name), "replace");
     if (second)
         builder_refused(it, status, call, first, second);
@@ -127,6 +138,7 @@ static bool put_in(Builder *it, uint32_t node)
     uint8_t status = hp_append_child(&it->calls->session, parent, node);
     if (status == HP_OK)
         return true;
+    memory_release();
     PyObject *number = PyLong_FromUnsignedLong(node);
     if (number)
         builder_refused(it, status, "append_child", parent, number);
@@ -135,17 +147,11 @@ static bool put_in(Builder *it, uint32_t node)
     return false;
 }
 
-/* Learns what a node is and where it stands: nodes are made in tree order. */
-static bool learn_node(Builder *it, uint32_t node, uint8_t kind, unsigned label)
-{
-    learn(&it->calls->labels, &it->calls->session, node, label);
-    return order_push(&it->order, node, it->open.length + 1, kind);
-}
-
-/* Puts in a node that has nothing below it. */
+/* Puts in a node that has nothing below it, and learns what it is and where it stands: nodes are made in tree order. */
 static bool put_in_leaf(Builder *it, uint32_t node, uint8_t kind)
 {
-    return learn_node(it, node, kind, label_of_kind(&it->calls->labels, kind)) && put_in(it, node);
+    learn(&it->calls->labels, &it->calls->session, node, label_of_kind(&it->calls->labels, kind));
+    return order_push(&it->order, node, it->open.length + 1, kind) && put_in(it, node);
 }
 
 /* Puts the text in that has come since the last node. */
@@ -161,6 +167,12 @@ static bool put_text(Builder *it)
     return put_in_leaf(it, node, KIND_TEXT);
 }
 
+/* Whether a name was refused, and what has it is left out. */
+static bool is_left_out(const Builder *it, uint8_t status)
+{
+    return it->is_lenient && (status == HP_INVALID_CHARACTER_ERROR || status == HP_NOT_UTF8);
+}
+
 /* Sets an attribute of the innermost open element. */
 static bool add_attribute(Builder *it, const char *name)
 {
@@ -169,9 +181,7 @@ static bool add_attribute(Builder *it, const char *name)
     uint8_t status = hp_set_attribute(&it->calls->session, element, (const uint8_t *)name, length, it->value.at, it->value.length);
     if (!status)
         it->shape = shape_with(&it->calls->labels, it->shape, name, length);
-    if (!status || (it->is_lenient && (status == HP_INVALID_CHARACTER_ERROR || status == HP_NOT_UTF8)))
-        return true;
-    return name_refused(it, status, "set_attribute", element, name);
+    return !status || is_left_out(it, status) || name_refused(it, status, "set_attribute", element, name);
 }
 
 /* An element, which gets its attributes next. */
@@ -185,17 +195,18 @@ static bool start_element(Builder *it, const char *name)
     uint8_t status = hp_create_element(&calls->session, it->document, (const uint8_t *)name, length, &element);
     if (status)
         return name_refused(it, status, "create_element", it->document, name);
+    it->label = label_of_name(&calls->labels, KIND_ELEMENT, name, length);
     it->shape = BARE;
-    if (learn_node(it, element, KIND_ELEMENT, label_of_name(&calls->labels, KIND_ELEMENT, name, length)) && numbers_push(&it->open, element))
+    if (order_push(&it->order, element, it->open.length + 1, KIND_ELEMENT) && numbers_push(&it->open, element))
         return true;
     note(calls, FAMILY_NODE, element);
     return false;
 }
 
-/* Tells that the innermost open element has all its attributes. */
+/* Learns what the innermost open element is, which has all its attributes. */
 static void end_attributes(Builder *it)
 {
-    learn_shape(&it->calls->labels, &it->calls->session, it->open.at[it->open.length - 1], it->shape);
+    learn_element(&it->calls->labels, &it->calls->session, it->open.at[it->open.length - 1], it->label, it->shape);
 }
 
 static bool end_element(Builder *it)
@@ -218,7 +229,9 @@ static bool add_instruction(Builder *it, const char *target, const char *data)
     if (!put_text(it) || !value_of(it, data))
         return false;
     uint8_t status = hp_create_pi(&it->calls->session, it->document, (const uint8_t *)target, strlen(target), it->value.at, it->value.length, &node);
-    return status ? name_refused(it, status, "create_pi", it->document, target) : put_in_leaf(it, node, KIND_PROCESSING_INSTRUCTION);
+    if (status)
+        return is_left_out(it, status) || name_refused(it, status, "create_pi", it->document, target);
+    return put_in_leaf(it, node, KIND_PROCESSING_INSTRUCTION);
 }
 
 /* A name and ids; null stands for an empty one. */

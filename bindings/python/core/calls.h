@@ -220,7 +220,9 @@ static PyObject *call_close(PyObject *self, PyObject *words)
     if (is_counted(words, 0, "close")) {
         moved((Calls *)self);
         PyThreadState *thread = begin_long((Calls *)self);
+        memory_own();
         uint8_t status = hp_close(session_at(self));
+        memory_release();
         end_long((Calls *)self, thread);
         found = status ? refused(status, "close", self, words) : let_go((Calls *)self, none());
     }
@@ -799,9 +801,13 @@ static PyObject *call_import_node(PyObject *self, PyObject *words)
     if (is_counted(words, 3, "import_node") && uint32_of(word(words, 0), &document) && uint32_of(word(words, 1), &node) && bool_of(word(words, 2), &deep)) {
         let_go_noted((Calls *)self);
         PyThreadState *thread = deep ? begin_long((Calls *)self) : NULL;
+        memory_own();
         uint8_t status = hp_import_node(session_at(self), document, node, deep, &copy);
+        memory_release();
         if (thread)
             end_long((Calls *)self, thread);
+        if (deep && !status)
+            ((Calls *)self)->copied = copy;
         found = status ? refused(status, "import_node", self, words) : PyLong_FromUnsignedLong(copy);
     }
     return found;
@@ -818,9 +824,13 @@ static PyObject *call_clone_node(PyObject *self, PyObject *words)
     if (is_counted(words, 2, "clone_node") && uint32_of(word(words, 0), &node) && bool_of(word(words, 1), &deep)) {
         let_go_noted((Calls *)self);
         PyThreadState *thread = deep ? begin_long((Calls *)self) : NULL;
+        memory_own();
         uint8_t status = hp_clone_node(session_at(self), node, deep, &copy);
+        memory_release();
         if (thread)
             end_long((Calls *)self, thread);
+        if (deep && !status)
+            ((Calls *)self)->copied = copy;
         found = status ? refused(status, "clone_node", self, words) : PyLong_FromUnsignedLong(copy);
     }
     return found;

@@ -316,7 +316,7 @@ static int module_fill(PyObject *module)
 {
     State *state = zeroed(1, sizeof(State));
     Cell *cell = zeroed(1, sizeof(Cell));
-    if (!state || !cell) {
+    if (!state || !cell || !is_ready_for_forks()) {
         PyMem_Free(state);
         PyMem_Free(cell);
         PyErr_NoMemory();

@@ -1,4 +1,4 @@
-/* HTML by html5-parser, whose tree is one of libxml2: it is read where it lies, so nothing is linked. */
+/* HTML by html5-parser or by lxml, whose trees are those of libxml2: they are read where they are, so nothing is linked. */
 #ifndef HUCKLEPORT_FROM_HTML_H
 #define HUCKLEPORT_FROM_HTML_H
 
@@ -41,9 +41,17 @@ typedef struct {
 } TheirDocument;
 
 /* Their numbers of types, which are the standard's. */
-enum { THEIR_ELEMENT = 1, THEIR_TEXT = 3, THEIR_CDATA = 4, THEIR_COMMENT = 8 };
+enum { THEIR_ELEMENT = 1, THEIR_TEXT = 3, THEIR_CDATA = 4, THEIR_INSTRUCTION = 7, THEIR_COMMENT = 8 };
 
-/* The prefix that a name of a namespace has in HTML,. */
+/* Elements as lxml declares them to other modules (its etreepublic.pxd). The node refers back to its object. */
+typedef struct {
+    PyObject_HEAD
+    PyObject *owner;
+    const Theirs *node;
+    PyObject *tag;
+} TheirElement;
+
+/* The prefix that a name of a namespace has in HTML. */
 static const char *prefix_of(const TheirNamespace *namespace)
 {
     static const char *const known[][2] = {
@@ -63,7 +71,7 @@ static bool add_prefixed(Builder *it, const char *prefix, const char *name)
     size_t first = strlen(prefix), length = strlen(name);
     char *whole = PyMem_Malloc(first + length + 2);
     if (!whole)
-        return PyErr_NoMemory() != NULL;
+        return out_of_memory();
     memcpy(whole, prefix, first);
     whole[first] = ':';
     memcpy(whole + first + 1, name, length + 1);
@@ -94,6 +102,8 @@ static bool add_theirs(Builder *it, const Theirs *node)
         return start_element(it, node->name) && add_their_attributes(it, node->attributes);
     if (node->type == THEIR_COMMENT)
         return add_comment(it, node->content);
+    if (node->type == THEIR_INSTRUCTION)
+        return add_instruction(it, node->name, node->content);
     bool is_text = (node->type == THEIR_TEXT || node->type == THEIR_CDATA) && node->content;
     return !is_text || units_push(&it->text, node->content, strlen(node->content));
 }
@@ -103,6 +113,7 @@ static bool add_below(Builder *it, const Theirs *top)
 {
     const Theirs *node = top->children;
     bool done = true;
+    memory_own();
     while (done && node && node != top) {
         done = add_theirs(it, node);
         if (done && node->type == THEIR_ELEMENT && node->children) {
@@ -116,7 +127,9 @@ static bool add_below(Builder *it, const Theirs *top)
         }
         node = node->next;
     }
-    return done && put_text(it);
+    done = done && put_text(it);
+    memory_release();
+    return done;
 }
 
 /* Whether a comment stands before the root. */
@@ -128,10 +141,31 @@ static bool has_comment_first(const TheirDocument *document)
     return node && node->type == THEIR_COMMENT;
 }
 
-/* The document that a capsule of html5-parser has, or null with an exception. */
-static const TheirDocument *document_in(PyObject *capsule)
+/* Whether an object is an element of lxml, and elements have the size that lxml declares. */
+static bool is_of_lxml(PyObject *it)
 {
-    return PyCapsule_GetPointer(capsule, "libxml2:xmlDoc");
+    PyObject *module = PyImport_ImportModule("lxml.etree");
+    PyObject *type = module ? PyObject_GetAttrString(module, "_Element") : NULL;
+    PyObject *size = type ? PyObject_GetAttrString(type, "__basicsize__") : NULL;
+    bool is_one = size && PyLong_AsUnsignedLong(size) == sizeof(TheirElement) && PyObject_TypeCheck(it, (PyTypeObject *)type);
+    Py_XDECREF(size);
+    Py_XDECREF(type);
+    Py_XDECREF(module);
+    return is_one;
+}
+
+/* The document that a capsule of html5-parser has, or that an element of lxml is in; or null with an exception. */
+static const TheirDocument *document_in(PyObject *page)
+{
+    static const char name[] = "libxml2:xmlDoc";
+    if (PyCapsule_IsValid(page, name))
+        return PyCapsule_GetPointer(page, name);
+    const Theirs *node = is_of_lxml(page) ? ((TheirElement *)page)->node : NULL;
+    if (node && node->private == page)
+        return (const TheirDocument *)node->document;
+    if (!PyErr_Occurred())
+        PyErr_SetString(PyExc_TypeError, "expected a page of html5-parser or an element of lxml");
+    return NULL;
 }
 
 /* Adds the nodes of a page, first the doctype. Where that may not stand first, since there are comments, nothing is added if that is asked for,
@@ -158,11 +192,11 @@ static PyObject *builder_add_page(PyObject *self, PyObject *words)
 }
 
 /* Adds the nodes of a part of a page, which stand under the root. */
-static PyObject *builder_add_part(PyObject *self, PyObject *capsule)
+static PyObject *builder_add_part(PyObject *self, PyObject *page)
 {
     if (is_busy(((Builder *)self)->calls))
         return NULL;
-    const TheirDocument *document = document_in(capsule);
+    const TheirDocument *document = document_in(page);
     const Theirs *root = document ? document->children : NULL;
     while (root && root->type != THEIR_ELEMENT)
         root = root->next;

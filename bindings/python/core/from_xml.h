@@ -47,9 +47,11 @@ typedef struct {
     char quote;
 } Xml;
 
+/* (From the first element on the lock of memory is owned, unless another thread waits for it.) */
 static void on_start(void *data, const char *name, const char **attributes)
 {
     Xml *it = data;
+    memory_own();
     it->is_whole = it->is_whole && start_element(it->builder, name);
     for (; it->is_whole && *attributes; attributes += 2)
         it->is_whole = value_of(it->builder, attributes[1]) && add_attribute(it->builder, attributes[0]);
@@ -61,6 +63,7 @@ static void on_end(void *data, const char *name)
 {
     Xml *it = data;
     (void)name;
+    memory_own();
     it->is_whole = it->is_whole && end_element(it->builder);
 }
 
@@ -110,6 +113,13 @@ static void on_doctype(void *data, const char *name, const char *system_id, cons
         it->expat->set_other(it->parser, on_token);
 }
 
+/* Python is asked for an encoding that expat does not know, and may run code. */
+static int on_encoding(void *data, const char *name, void *to)
+{
+    memory_release();
+    return ((const Expat *)data)->other_encoding(NULL, name, to);
+}
+
 /* Parses in pieces, since a length is an int. Whether it is well-formed. */
 static bool is_parsed(const Xml *it, const char *octets, size_t length)
 {
@@ -120,7 +130,9 @@ static bool is_parsed(const Xml *it, const char *octets, size_t length)
         octets += most;
         length -= most;
     }
-    return status && it->expat->parse(it->parser, octets, (int)length, 1);
+    status = status && it->expat->parse(it->parser, octets, (int)length, 1);
+    memory_release();
+    return status;
 }
 
 /* What pyexpat hands out, or null with an exception. */
@@ -148,7 +160,7 @@ static bool add_xml(Builder *builder, const char *octets, size_t length, bool is
     expat->set_comment(it.parser, on_comment);
     expat->set_instruction(it.parser, on_instruction);
     expat->set_doctype(it.parser, on_doctype);
-    expat->set_encodings(it.parser, expat->other_encoding, NULL);
+    expat->set_encodings(it.parser, on_encoding, (void *)expat);
     it.is_whole = building_begins(builder);
     bool is_done = is_parsed(&it, octets, length) && it.is_whole;
     expat->end(it.parser);

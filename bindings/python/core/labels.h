@@ -5,7 +5,7 @@
 
 #include "core.h"
 
-enum { PAGE_BITS = 10, PAGE = 1 << PAGE_BITS, LABEL_ROOM = 45, MOST_LABELS = 4096, MET = 64 };
+enum { PAGE_BITS = 10, PAGE = 1 << PAGE_BITS, LABEL_ROOM = 45, MOST_LABELS = 4096, MET = 256 };
 
 /* A kind, and a name where it is known. */
 typedef struct {
@@ -27,20 +27,14 @@ typedef struct {
     uint16_t label, shape;
 } Known;
 
-/* The label that was found for a name, and where that name lay: a parser has each name of a document in one place. */
-typedef struct {
-    const void *name;
-    unsigned label;
-} Met;
-
-/* The labels, with an index by their content, and some by the address of a name; the shapes, with an index; and an entry for each number. The entries
- * are stored in pages. */
+/* The labels, with an index by their content, and the last one that was found for names with the same ends; the shapes, with an index; and an entry
+ * for each number. The entries are stored in pages. */
 typedef struct {
     Label *at;
     size_t length, room;
     uint16_t *index;
     size_t index_room;
-    Met met[MET];
+    uint16_t met[MET];
     uint16_t of_kind[KINDS];
     Shape *shapes;
     uint16_t *shapes_index;
@@ -148,25 +142,31 @@ static unsigned label_of_kind(Labels *it, uint8_t kind)
     return found;
 }
 
-/* Checks whether a label is of a kind with a name. It compares the bytes, since the address of a name may hold another one by now. */
+/* Checks whether a label is of a kind with a name. */
 static bool is_label(const Label *it, uint8_t kind, const void *name, size_t length)
 {
     return it->is_named && it->kind == kind && it->length == length && memcmp(it->name, name, length) == 0;
 }
 
+/* The place of the last label that was found for a name of these ends. The factors keep most of HTML's names apart. */
+static uint16_t *label_met(Labels *it, uint8_t kind, const uint8_t *name, size_t length)
+{
+    size_t ends = length ? 3 * length + 17u * name[0] + 9u * name[length - 1] : 0;
+    return &it->met[(ends + 67u * kind) & (MET - 1)];
+}
+
 /* The label of a kind with a name; a long one is left out. */
 static unsigned label_of_name(Labels *it, uint8_t kind, const void *name, size_t length)
 {
-    Met *met = &it->met[((uintptr_t)name >> 3 ^ (uintptr_t)name >> 9) & (MET - 1)];
-    if (met->name == name && is_label(&it->at[met->label], kind, name, length))
-        return met->label;
+    uint16_t *met = label_met(it, kind, name, length);
+    if (*met && is_label(&it->at[*met], kind, name, length))
+        return *met;
     Label label = { kind, (uint8_t)length, true, "" };
     if (length > LABEL_ROOM)
         return label_of_kind(it, kind);
     memcpy(label.name, name, length);
     unsigned found = label_put(it, &label);
-    if (found)
-        *met = (Met){ name, found };
+    *met = (uint16_t)found;
     return found ? found : label_of_kind(it, kind);
 }
 
@@ -225,11 +225,9 @@ static bool is_sparse(const Labels *it, hp_session *session)
     return it->pages_made >= 64 && hp_in_use(session, &counts) == HP_OK && it->pages_made * (PAGE / 8) > counts.nodes;
 }
 
-/* Returns a page of entries, which is made if it is missing, or null if out of memory. */
-static Known *known_page(Labels *it, hp_session *session, size_t page)
+/* Makes the page of entries if it is missing; returns it, or null if out of memory. */
+static Known *page_made(Labels *it, hp_session *session, size_t page)
 {
-    if (page < it->pages_length && it->pages[page])
-        return it->pages[page];
     if (is_sparse(it, session))
         labels_drop_pages(it);
     if (page >= it->pages_length) {
@@ -249,7 +247,10 @@ static Known *known_page(Labels *it, hp_session *session, size_t page)
 /* Returns the entry of a number, which is made if it is missing, or null if out of memory. */
 static Known *known_made(Labels *it, hp_session *session, uint32_t number)
 {
-    Known *page = known_page(it, session, number >> PAGE_BITS);
+    Known *known = known_of(it, number);
+    if (known)
+        return known;
+    Known *page = page_made(it, session, number >> PAGE_BITS);
     return page ? &page[number & (PAGE - 1)] : NULL;
 }
 
@@ -259,6 +260,14 @@ static void learn(Labels *it, hp_session *session, uint32_t number, unsigned lab
     Known *known = label ? known_made(it, session, number) : NULL;
     if (known)
         known->label = (uint16_t)label;
+}
+
+/* Learns the label of an element and the names of its attributes. */
+static void learn_element(Labels *it, hp_session *session, uint32_t element, unsigned label, unsigned shape)
+{
+    Known *known = label || shape ? known_made(it, session, element) : NULL;
+    if (known)
+        *known = (Known){ (uint16_t)label, (uint16_t)shape };
 }
 
 /* Learns the names of the attributes of an element. */

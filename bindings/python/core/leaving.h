@@ -6,6 +6,7 @@
 #define HUCKLEPORT_LEAVING_H
 
 #include "labels.h"
+#include "memory.h"
 #include "table.h"
 
 /* Numbers of nodes, and then the kind of each. */
@@ -67,6 +68,8 @@ typedef struct {
     Labels labels;
     /* The tree that was gone through last. It is kept as long as nothing moves in the session. */
     Order order;
+    /* The root of the last deep copy, as long as nothing moves: the nodes of its tree have the numbers from its own on. Or HP_NONE. */
+    uint32_t copied;
     /* Counts the calls that may have freed nodes: cached names are stale after each. */
     uint32_t epoch;
     /* The noted numbers, by families; the roots of trees that were held or in use when they were tried; and whether any number is noted. */
@@ -115,7 +118,7 @@ static bool order_push(Order *it, uint32_t number, size_t depth, uint8_t kind)
         size_t room = it->room ? 2 * it->room : 32;
         Ranked *wider = depth < 1 << 28 ? PyMem_Realloc(it->at, room * sizeof(Ranked)) : NULL;
         if (!wider)
-            return PyErr_NoMemory() != NULL;
+            return out_of_memory();
         it->at = wider;
         it->room = room;
     }
@@ -126,6 +129,7 @@ static bool order_push(Order *it, uint32_t number, size_t depth, uint8_t kind)
 /* Tells that nodes may move. */
 static void moved(Calls *it)
 {
+    it->copied = HP_NONE;
     if (it->order.at)
         order_drop(&it->order);
 }
@@ -273,6 +277,12 @@ static bool is_held(Calls *it, uint32_t root, size_t *steps)
     return false;
 }
 
+/* Whether a tree is a copy that is as it was made, and no object refers to a node of it or to a later one. */
+static bool is_free_copy(const Calls *it, uint32_t root)
+{
+    return it->copied == root && !it->waiting && is_none_from(&it->kept.nodes, root);
+}
+
 /* ---- letting go */
 
 typedef uint8_t Release(hp_session *, uint32_t);
@@ -298,6 +308,14 @@ static void release_noted(Calls *it, uint32_t family)
     leaving_clear(noted);
 }
 
+static uint8_t discarded(hp_session *session, uint32_t node)
+{
+    memory_own();
+    uint8_t status = hp_discard(session, node);
+    memory_release();
+    return status;
+}
+
 /* Discards the tree of a root, unless it is held or in use. A node that stands in a tree goes with that one. */
 static void discard_noted(Calls *it, uint32_t node)
 {
@@ -305,8 +323,9 @@ static void discard_noted(Calls *it, uint32_t node)
     size_t steps = 0;
     if (is_found_again(it, node, FAMILY_NODE) || hp_links(&it->session, node, &links) != HP_OK || links.parent != HP_NONE)
         return;
+    bool is_free = is_free_copy(it, node);
     moved(it);
-    if (is_held(it, node, &steps) || hp_discard(&it->session, node) == HP_IN_USE) {
+    if ((!is_free && is_held(it, node, &steps)) || discarded(&it->session, node) == HP_IN_USE) {
         leaving_push(&it->held, node);
         it->steps += steps;
     }

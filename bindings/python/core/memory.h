@@ -1,11 +1,17 @@
 /* The library's memory: its calls of malloc, realloc and free are linked to these (--wrap). Blocks of a size stand side by side in slabs, and one
- * that is freed is the next to be taken. A long call runs without the lock of the interpreter, so there is a lock here. */
+ * that is freed is the next to be taken. A long call runs without the lock of the interpreter, so there is a lock here. A thread may own it for a
+ * whole call, and releases it amid the call if another thread wants it. */
 #ifndef HUCKLEPORT_MEMORY_H
 #define HUCKLEPORT_MEMORY_H
 
 #include "core.h"
 
+#include <pthread.h>
 #include <sched.h>
+
+#ifndef __has_builtin
+#define __has_builtin(name) 0
+#endif
 
 void *__real_malloc(size_t size);
 void *__real_realloc(void *at, size_t size);
@@ -15,7 +21,7 @@ void *__wrap_realloc(void *at, size_t size);
 void __wrap_free(void *at);
 
 /* A block consists of grains. A word ahead of the memory that is handed out holds their number: 0 for a block that malloc has made. */
-enum { GRAIN = 16, WORD = 8, MOST_GRAINS = 33, SLAB = 1 << 18 };
+enum { GRAIN = 16, WORD = 8, MOST_GRAINS = 33, MOST_SIZE = GRAIN * (MOST_GRAINS - 1) - WORD, SLAB = 1 << 18 };
 /* The number of slabs that are kept for later when no block is in use: 16 MB. */
 enum { MOST_SPARE = 64 };
 
@@ -24,18 +30,21 @@ typedef struct Block {
 } Block;
 
 /* Freed blocks by their sizes; the slabs, and the spare ones; where the free part of the last slab begins and ends; and how many blocks are in use.
- * Each slab begins with a link to the next. */
+ * Each slab begins with a link to the next. Then the lock; the thread that owns it for a call, or 0; and whether another thread wants it. */
 static struct {
     Block *free[MOST_GRAINS];
     Block *slabs, *spare;
     char *at, *end;
     size_t used;
     bool is_locked;
+    uintptr_t owner;
+    bool is_wanted;
 } memory;
 
 static void memory_lock(void)
 {
     for (int tries = 0; __atomic_test_and_set(&memory.is_locked, __ATOMIC_ACQUIRE); tries++) {
+        __atomic_store_n(&memory.is_wanted, true, __ATOMIC_RELAXED);
         if (tries % 64 == 63)
             sched_yield();
     }
@@ -44,6 +53,72 @@ static void memory_lock(void)
 static void memory_unlock(void)
 {
     __atomic_clear(&memory.is_locked, __ATOMIC_RELEASE);
+}
+
+/* What tells this thread from others, and is not 0. */
+static inline uintptr_t this_thread(void)
+{
+#if __has_builtin(__builtin_thread_pointer)
+    return (uintptr_t)__builtin_thread_pointer();
+#else
+    return (uintptr_t)pthread_self();
+#endif
+}
+
+/* Whether this thread owns the lock: no other thread writes this one's identity. */
+static inline bool is_memory_owned(void)
+{
+    return __atomic_load_n(&memory.owner, __ATOMIC_RELAXED) == this_thread();
+}
+
+/* Whether this thread owns the lock, and no other thread waits for it. */
+static inline bool is_memory_mine(void)
+{
+    return is_memory_owned() && !__atomic_load_n(&memory.is_wanted, __ATOMIC_RELAXED);
+}
+
+static __attribute__((noinline)) void memory_taken(void)
+{
+    memory_lock();
+    __atomic_store_n(&memory.is_wanted, false, __ATOMIC_RELAXED);
+    __atomic_store_n(&memory.owner, this_thread(), __ATOMIC_RELAXED);
+}
+
+/* Takes the lock, unless this thread owns it, for calls that run no code of Python and wait for no other lock. */
+static inline void memory_own(void)
+{
+    if (!is_memory_owned())
+        memory_taken();
+}
+
+/* Releases the lock at the end of a call, or amid it. */
+static void memory_release(void)
+{
+    if (!is_memory_owned())
+        return;
+    __atomic_store_n(&memory.owner, 0, __ATOMIC_RELAXED);
+    memory_unlock();
+}
+
+/* Raises MemoryError, and returns false. The lock is released before, since code of Python may run when an exception is raised. */
+static bool out_of_memory(void)
+{
+    memory_release();
+    return PyErr_NoMemory() != NULL;
+}
+
+/* Makes each fork take the lock, which another thread may own, so that it is free in the child. Returns false if there was no memory for that. */
+static bool is_ready_for_forks(void)
+{
+    static bool is_registered;
+    return __atomic_test_and_set(&is_registered, __ATOMIC_RELAXED) || pthread_atfork(memory_lock, memory_unlock, memory_unlock) == 0;
+}
+
+/* Takes the lock for one block. If another thread waits for it, it is owned no more. */
+static void memory_lock_once(void)
+{
+    memory_release();
+    memory_lock();
 }
 
 static size_t *word_of(void *at)
@@ -66,25 +141,33 @@ static bool slab_made(void)
 }
 
 /* Makes a block at the end of the last slab. The rest of a slab that has no room for it stays unused until no block is in use. */
-static void *block_made(size_t grains)
+static __attribute__((noinline)) void *block_made(size_t grains)
 {
     if ((size_t)(memory.end - memory.at) < (grains + 1) * GRAIN && !slab_made())
         return NULL;
     void *found = memory.at + GRAIN;
     memory.at += grains * GRAIN;
+    memory.used++;
     *word_of(found) = grains;
     return found;
 }
 
-static void *block_taken(size_t grains)
+/* Takes a block under the lock. That which is taken next of its size is fetched into the cache, since what it begins with is read then. */
+static inline void *block_taken(size_t grains)
 {
-    memory_lock();
     Block *found = memory.free[grains];
-    if (found)
-        memory.free[grains] = found->next;
-    else
-        found = block_made(grains);
-    memory.used += found != NULL;
+    if (!found)
+        return block_made(grains);
+    memory.free[grains] = found->next;
+    __builtin_prefetch(found->next, 1);
+    memory.used++;
+    return found;
+}
+
+static __attribute__((noinline)) void *block_taken_once(size_t grains)
+{
+    memory_lock_once();
+    void *found = block_taken(grains);
     memory_unlock();
     return found;
 }
@@ -117,12 +200,18 @@ static void slabs_freed(Block *slabs)
     }
 }
 
-static void block_left(Block *it, size_t grains)
+/* Puts a block among the free ones, under the lock. Returns whether no block is in use then. */
+static inline bool is_last_left(Block *it, size_t grains)
 {
-    memory_lock();
     it->next = memory.free[grains];
     memory.free[grains] = it;
-    Block *slabs = --memory.used ? NULL : slabs_left();
+    return --memory.used == 0;
+}
+
+static __attribute__((noinline)) void block_left_once(Block *it, size_t grains)
+{
+    memory_lock_once();
+    Block *slabs = is_last_left(it, grains) ? slabs_left() : NULL;
     memory_unlock();
     slabs_freed(slabs);
 }
@@ -136,21 +225,36 @@ static void *large_made(char *found)
     return found + GRAIN;
 }
 
+/* (What is seldom done is a function of its own, so that the usual way saves no registers.) */
+static __attribute__((noinline)) void *large_taken(size_t size)
+{
+    return size > SIZE_MAX - GRAIN ? NULL : large_made(__real_malloc(size + GRAIN));
+}
+
 void *__wrap_malloc(size_t size)
 {
-    size_t grains = size > GRAIN * MOST_GRAINS ? MOST_GRAINS : (size + WORD + GRAIN - 1) / GRAIN;
-    if (grains < MOST_GRAINS)
-        return block_taken(grains);
-    return size > SIZE_MAX - GRAIN ? NULL : large_made(__real_malloc(size + GRAIN));
+    size_t grains = (size + WORD + GRAIN - 1) / GRAIN;
+    if (size > MOST_SIZE)
+        return large_taken(size);
+    return is_memory_mine() ? block_taken(grains) : block_taken_once(grains);
+}
+
+static __attribute__((noinline)) void slabs_left_and_freed(void)
+{
+    slabs_freed(slabs_left());
 }
 
 void __wrap_free(void *at)
 {
     size_t grains = at ? *word_of(at) : 0;
-    if (grains)
-        block_left(at, grains);
-    else if (at)
+    if (!at)
+        return;
+    if (!grains)
         __real_free((char *)at - GRAIN);
+    else if (!is_memory_mine())
+        block_left_once(at, grains);
+    else if (is_last_left(at, grains))
+        slabs_left_and_freed();
 }
 
 void *__wrap_realloc(void *at, size_t size)

@@ -154,8 +154,10 @@ static PyObject *calls_new(PyTypeObject *type, PyObject *words, PyObject *named)
     (void)named;
     State *state = state_of_type(type);
     PyObject *found = state ? PyType_GenericAlloc(type, 0) : NULL;
-    if (found)
+    if (found) {
         ((Calls *)found)->state = state_held(state);
+        ((Calls *)found)->copied = HP_NONE;
+    }
     return found;
 }
 
@@ -163,7 +165,9 @@ static void calls_dealloc(PyObject *self)
 {
     PyTypeObject *type = Py_TYPE(self);
     Calls *it = (Calls *)self;
+    memory_own();
     hp_close(&it->session);
+    memory_release();
     drop_taken(it);
     table_drop(&it->kept);
     labels_drop(&it->labels);

@@ -117,6 +117,22 @@ static void nodes_take(NodeTable *it, uint32_t number)
     *branch = NULL;
 }
 
+/* Whether no object has this number or a larger one. */
+static bool is_none_from(const NodeTable *it, uint32_t number)
+{
+    const size_t first = number >> LEAF_BITS, end = it->length << BRANCH_BITS;
+    for (size_t at = first; at < end; at++) {
+        const Branch *branch = it->at[at >> BRANCH_BITS];
+        const Leaf *leaf = branch ? branch->at[at & (BRANCH - 1)] : NULL;
+        for (size_t part = at == first ? number & (LEAF - 1) : 0; leaf && part < LEAF; part++) {
+            if (leaf->at[part])
+                return false;
+        }
+        at |= branch ? 0 : BRANCH - 1;
+    }
+    return true;
+}
+
 static void nodes_drop(NodeTable *it)
 {
     for (size_t at = 0; at < it->length; at++) {

@@ -3,13 +3,28 @@
 from __future__ import annotations
 
 from importlib import import_module
-from typing import Any, Dict, Optional
+from typing import Any, Dict, Optional, Union
 
 from . import xml
+from ._calls import Builder
 from .documents import Document
-from .errors import BadType, BadValue, NotXML
+from .errors import BadType, BadValue, Malformed, NotXML
 from .nodes import Element, Node
 from .session import Session
+from .texts import well_formed
+
+
+def parse(document: Document, source: Union[str, bytes]) -> None:
+    """Parses a page of HTML into a document by lxml's own parser, without its default doctype. Inserts nothing if the page has no element."""
+    etree: Any = import_module("lxml.etree")
+    data, encoding = (well_formed(source).encode(), "utf-8") if isinstance(source, str) else (source, None)
+    parser = etree.HTMLParser(encoding=encoding, huge_tree=True, collect_ids=False, default_doctype=False)
+    try:
+        root = etree.fromstring(data, parser) if data.strip() else None
+    except etree.XMLSyntaxError as fault:
+        raise Malformed(None, "parse", str(fault)) from None
+    if root is not None:
+        Builder(document._calls, document.number, document.number, True).add_page(root, False)
 
 
 def _qualified(name: str, prefixes: Dict[str, Optional[str]]) -> str:

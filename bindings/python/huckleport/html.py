@@ -1,4 +1,4 @@
-"""HTML in and out: parsed by html5-parser or by html5lib, as the HTML Standard says, and written by its rules.
+"""HTML in and out: parsed by html5-parser or by html5lib, as the HTML Standard says, or by lxml's own parser; and written by the standard's rules.
 
 A page, there and back::
 
@@ -16,18 +16,20 @@ from typing import Any, Optional, Union, overload
 from ._sources import Pieces, Source, Target, indented, read, write as write_bytes
 from ._writing import COMMENT, INSTRUCTION, Style, markup, table
 from .documents import Document
-from .errors import NoParser
+from .errors import BadValue, NoParser
 from .nodes import DocumentFragment, Element, Node
 from .session import Session
 
 __all__ = ["PARSER", "Parser", "SlowParser", "parse", "parse_fragment", "serialize", "tostring", "write"]  # noqa: F822
 
-SLOW = "pages are parsed by html5lib, since html5-parser is not here, which takes a tenth of the time: pip install html5-parser (or huckleport[quick-html])"
-MISSING = "HTML is parsed by html5-parser or html5lib, and neither is here: pip install html5lib (or huckleport[html])"
+SLOW = "pages are parsed by html5lib, since html5-parser is not here, which takes a tenth of the time: pip install html5-parser (or huckleport[quick-html]); lxml is as quick, for HTML 4: parser='lxml'"
+MISSING = "HTML is parsed by html5-parser or html5lib, and neither is here: pip install html5lib (or huckleport[html]), or choose parser='lxml' if lxml is here"
+# The parsers, and the modules that they need.
+PARSERS = {"html5-parser": "html5_parser", "html5lib": "html5lib", "lxml": "lxml"}
 
 
 def _found() -> str:
-    """Which parser is there: the quicker one, else the other, else none."""
+    """Which parser by the HTML Standard is there: the quicker one, else the other, else none."""
     if find_spec("html5_parser") and find_spec("lxml"):
         try:
             import_module("html5_parser")
@@ -49,8 +51,24 @@ class SlowParser(UserWarning):
     """Pages are parsed by html5lib, which is in Python: html5-parser takes a tenth of the time."""
 
 
-def _parser() -> str:
-    """Returns which parser is used. Warns if it is the slow one."""
+def _warn_if_alone() -> None:
+    """Warns at the import if html5lib is the only parser that is here."""
+    if [name for name, module in PARSERS.items() if find_spec(module)] == ["html5lib"]:
+        globals()["PARSER"] = "html5lib"
+        warnings.warn(SLOW, SlowParser, stacklevel=4)
+
+
+_warn_if_alone()
+
+
+def _parser(chosen: str = "") -> str:
+    """Returns the chosen parser, or else the default one. Warns if that is the slow one."""
+    if chosen and chosen not in PARSERS:
+        raise BadValue(None, "", f"expected html5-parser, html5lib or lxml as the parser, not {chosen!r}")
+    if chosen and not find_spec(PARSERS[chosen]):
+        raise NoParser(None, "", f"{chosen} was chosen and is not here: pip install {chosen}")
+    if chosen:
+        return chosen
     is_known = "PARSER" in globals()
     found: str = globals()["PARSER"] if is_known else _found()
     if not found:
@@ -66,9 +84,14 @@ VOID = frozenset("area base basefont bgsound br col embed frame hr img input key
 PLAIN = frozenset("style script xmp iframe noembed noframes plaintext".split())
 
 
-def _fill(document: Document, source: Union[str, bytes]) -> None:
+def _fill(document: Document, source: Union[str, bytes], parser: str) -> None:
     """Parses a page into a document. Only html5lib shows which nodes are ahead of a doctype."""
-    if _parser() == "html5-parser":
+    if parser == "lxml":
+        from ._lxml import parse as parse_by_lxml
+
+        parse_by_lxml(document, source)
+        return
+    if parser == "html5-parser":
         from ._html5_parser import parse as parse_page
 
         if parse_page(document, source, bool(find_spec("html5lib"))):
@@ -78,16 +101,18 @@ def _fill(document: Document, source: Union[str, bytes]) -> None:
     parse_exactly(document, source)
 
 
-def parse(source: Source, session: Optional[Session] = None) -> Document:
+def parse(source: Source, session: Optional[Session] = None, parser: str = "") -> Document:
     """The Document of a page, in a session or in a new one: of a text, of bytes, of a path (a ``Path``, not a ``str``) or of a file.
 
-    Attributes whose names the library refuses are left out.
+    ``parser`` chooses ``html5-parser``, ``html5lib`` or ``lxml``; without it the parser is ``PARSER``. lxml's own parser is that of libxml2 for HTML 4,
+    and the quickest. It repairs markup by other rules than the HTML Standard: it implies no ``head``, inserts the doctype first, and has no foreign
+    elements and no templates. It has no nodes for a page without an element. Attributes whose names the library refuses are left out.
     """
-    _parser()
+    used = _parser(parser)
     given = read(source)
     document = Session().document if session is None else session.create_document()
     try:
-        _fill(document, given)
+        _fill(document, given, used)
     except BaseException:
         # (nothing of a refused page stays in the session)
         if session is not None:
@@ -99,8 +124,8 @@ def parse(source: Source, session: Optional[Session] = None) -> Document:
 class Parser(Pieces[Document]):
     """Takes a page piece by piece: ``feed(data)``, and ``close()`` returns the Document."""
 
-    def __init__(self, session: Optional[Session] = None) -> None:
-        super().__init__(lambda source: parse(source, session))
+    def __init__(self, session: Optional[Session] = None, parser: str = "") -> None:
+        super().__init__(lambda source: parse(source, session, parser))
 
 
 def parse_fragment(source: Union[str, bytes], container: str = "div", document: Optional[Document] = None) -> DocumentFragment:

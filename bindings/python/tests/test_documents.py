@@ -2,14 +2,17 @@
 import os
 import subprocess
 import sys
+import tempfile
 import time
 import unittest
+import warnings
 from unittest import mock
 from xml.dom import minidom
 from xml.parsers import expat
 from xml.parsers.expat import ExpatError
 
 import huckleport as h
+from huckleport._calls import Builder
 from tests import pages
 from tests.rows import is_there, joined, of_lxml, of_minidom, ours
 
@@ -124,6 +127,97 @@ class ByHtml5Parser(Parsed, unittest.TestCase):
     def test_foreign_attributes(self):
         document = h.html.parse("<svg viewBox=a xlink:href=b xml:lang=c><foreignObject>")
         self.assertEqual(dict(document.get_elements_by_tag_name("svg")[0].attributes), {"viewBox": "a", "xlink:href": "b", "xml:lang": "c"})
+
+
+@LXML
+class ByLxml(unittest.TestCase):
+    """Pages by lxml's own parser, which have the tree that lxml has of them."""
+
+    PAGES = {
+        **pages.PAGES,
+        "large": pages.large(2000),
+        "ahead": "<!-- one --><?two three?><!DOCTYPE html SYSTEM 'about:legacy-compat'><!-- four --><p>x</p></html><!-- five --><?six?>",
+        "names": "<p =a b=c d e.f=1 xml:lang=en>t<x-y z><o:p></o:p></x-y>",
+        "broken": "<p a='1>x</p><b <i>y</p </b><![CDATA[z]]><!doctype a><? ?><?1 2?></ ></1>",
+    }
+
+    def test_pages(self):
+        from lxml import etree
+
+        parser = etree.HTMLParser(huge_tree=True, default_doctype=False)
+        for name, text in self.PAGES.items():
+            for source in (text, text.encode("ascii", "xmlcharrefreplace")):
+                with self.subTest(name, source=type(source)):
+                    root = etree.fromstring(source, parser)
+                    due = [] if root is None else joined(of_lxml(root.getroottree()))
+                    self.assertEqual(ours(h.html.parse(source, parser="lxml")), due)
+
+    def test_what_is_there(self):
+        document = h.html.parse("<!doctype html><p>a\ud800b<!--c--><br title='&eacute;' hidden>", parser="lxml")
+        self.assertEqual(h.html.serialize(document), '<!DOCTYPE html><html><body><p>a\ufffdb<!--c--><br title="\xe9" hidden=""></p></body></html>')
+        self.assertEqual(h.html.parse("<p>x", parser="lxml").child_nodes[0].node_name, "html")
+        for empty in ("", " ", "<!-- a -->", b""):
+            self.assertEqual(h.html.parse(empty, parser="lxml").child_nodes, [])
+
+    def test_bytes(self):
+        raw = "<meta charset=iso-8859-1><p>\u00e9".encode("latin-1")
+        self.assertEqual(h.html.parse(raw, parser="lxml").get_elements_by_tag_name("p")[0].text_content, "\u00e9")
+
+    def test_deep(self):
+        document = h.html.parse("<div>" * 3000 + "x", parser="lxml")
+        self.assertEqual(len(document.get_elements_by_tag_name("div")), 3000)
+
+    def test_pieces_and_sessions(self):
+        session = h.Session()
+        parser = h.html.Parser(session, parser="lxml")
+        parser.feed("<p>o")
+        parser.feed("ne")
+        document = parser.close()
+        self.assertIs(document.session, session)
+        self.assertEqual(document.body.text_content, "one")
+
+    def test_other_objects(self):
+        """The core reads no object that is no element of lxml, nor one whose node has another object."""
+        from lxml import etree
+
+        document = h.Session().document
+        for other in (object(), None, "a", etree.fromstring("<a/>").getroottree(), etree._Element.__new__(etree._Element)):
+            with self.assertRaises(TypeError):
+                Builder(document._calls, document.number, document.number, True).add_page(other, False)
+        self.assertEqual(document.child_nodes, [])
+
+
+class Chosen(unittest.TestCase):
+    def test_unknown(self):
+        with self.assertRaisesRegex(h.BadValue, "expected html5-parser, html5lib or lxml as the parser, not 'other'"):
+            h.html.parse("<p>", parser="other")
+
+    def test_missing(self):
+        with mock.patch.object(h.html, "find_spec", lambda name: None):
+            for name in ("html5-parser", "html5lib", "lxml"):
+                with self.assertRaisesRegex(h.NoParser, f"{name} was chosen and is not here: pip install {name}"):
+                    h.html.parse("<p>", parser=name)
+
+    @HTML5LIB
+    def test_another_than_is_used(self):
+        with mock.patch.dict(h.html.__dict__, {"PARSER": "none"}), warnings.catch_warnings():
+            warnings.simplefilter("error")
+            self.assertEqual(h.html.parse("<p>x", parser="html5lib").body.text_content, "x")
+
+    def told(self, *modules):
+        """What the import says if these modules are here and no others."""
+        package = os.path.dirname(os.path.dirname(os.path.abspath(h.__file__)))
+        with tempfile.TemporaryDirectory() as folder:
+            for it in modules:
+                open(os.path.join(folder, f"{it}.py"), "w").close()
+            words = f"import sys; sys.path[:0] = [{package!r}, {folder!r}]\nimport huckleport"
+            ran = subprocess.run([sys.executable, "-S", "-E", "-c", words], stdout=subprocess.PIPE, stderr=subprocess.PIPE, check=True)
+        return ran.stderr.decode()
+
+    def test_the_slow_one_alone_is_told_at_the_import(self):
+        self.assertRegex(self.told("html5lib"), "^<string>:2: SlowParser: pages are parsed by html5lib")
+        for others in ((), ("lxml",), ("html5lib", "lxml"), ("html5lib", "html5_parser")):
+            self.assertEqual(self.told(*others), "")
 
 
 class WithoutParser(unittest.TestCase):

@@ -128,6 +128,36 @@ class LettingGo(unittest.TestCase):
 
     # nodes
 
+    def test_copies(self):
+        """A deep copy goes as it was made or edited, and stays as long as a node of it has an object."""
+        top = self.element(self.element("some", "text"), "more")
+        copied = top.clone_node(True)
+        numbers = [it.number for it in copied.descendants()]
+        self.assertEqual([copied.number, *numbers], list(range(copied.number, copied.number + 5)))
+        del copied
+        self.assertLevel(nodes=5)
+        for keep in (lambda it: it.last_child, lambda it: self.document.create_node_iterator(it), lambda it: iter(it.descendants())):
+            copied = top.clone_node(True)
+            kept = keep(copied)
+            del copied
+            self.document.create_comment("c")
+            self.assertLevel(nodes=10, **({"iterators": 1} if isinstance(kept, h.NodeIterator) else {}))
+            del kept
+            self.assertLevel(nodes=5)
+
+    def test_copies_with_older_nodes(self):
+        """A copy stays if an older node was put into it that has an object."""
+        top, older = self.element("text"), self.element()
+        for put in (h.Element.append_child, lambda copied, it: h.move(it, copied), lambda copied, it: copied.prepend(it)):
+            copied = top.clone_node(True)
+            put(copied, older)
+            del copied
+            self.document.create_comment("c")
+            self.assertLevel(nodes=5)
+            self.assertEqual(older.parent_node.length, 2)
+            older.remove()
+            self.assertLevel(nodes=3)
+
     def test_trees(self):
         """A tree goes once no node of it has an object."""
         inner = self.element("some", "text")

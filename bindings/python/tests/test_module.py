@@ -9,7 +9,7 @@ from huckleport._calls import core
 # What the headers of 3.8 declare where Py_LIMITED_API is 0x03080000, and its library has: of it all that the module takes.
 STABLE = set(
     """
-    PyArg_ParseTuple PyBool_FromLong PyBytes_AsStringAndSize PyBytes_FromStringAndSize PyCapsule_GetPointer PyCapsule_Import PyCapsule_New PyDescr_NewGetSet
+    PyArg_ParseTuple PyBool_FromLong PyBytes_AsStringAndSize PyBytes_FromStringAndSize PyCapsule_GetPointer PyCapsule_Import PyCapsule_IsValid PyCapsule_New PyDescr_NewGetSet
     PyDescr_NewMethod PyDict_DelItem PyDict_GetItem PyDict_GetItemString PyDict_New PyDict_SetItem PyDict_Size PyErr_Clear
     PyErr_ExceptionMatches PyErr_Fetch PyErr_Format PyErr_NoMemory PyErr_NormalizeException PyErr_Occurred PyErr_SetObject PyErr_SetString
     PyExc_AttributeError PyExc_Exception PyExc_ImportError PyExc_KeyError PyExc_OverflowError PyExc_RuntimeError PyExc_TypeError PyExc_ValueError
