@@ -225,7 +225,7 @@ static void *large_made(char *found)
     return found + GRAIN;
 }
 
-/* (What is seldom done is a function of its own, so that the usual way saves no registers.) */
+/* (Seldom used code is a function of its own, so that the usual way saves no registers.) */
 static __attribute__((noinline)) void *large_taken(size_t size)
 {
     return size > SIZE_MAX - GRAIN ? NULL : large_made(__real_malloc(size + GRAIN));
