@@ -5,6 +5,7 @@ from __future__ import annotations
 import time
 import uuid
 from functools import partial
+from itertools import groupby
 from types import TracebackType
 from typing import Any, Dict, Iterable, Iterator, List, NamedTuple, Optional, Sequence, Tuple, Type, Union
 
@@ -263,13 +264,13 @@ class Document:
             pass
 
     def _hand_in_again(self, until: float) -> None:
-        requests, lines = list(self._waiting), list(self._waiting.values())
         self._handed_in = self._link.times, time.monotonic()
-        at = 0
-        while at < len(lines):
-            chunk = self._chunk(lines, at)
-            self._link.run(SUBMIT, (self.id, self.client.id, requests[at], chunk), until)
-            at += len(chunk)
+        for first, lines in runs(self._waiting):
+            at = 0
+            while at < len(lines):
+                chunk = self._chunk(lines, at)
+                self._link.run(SUBMIT, (self.id, self.client.id, first + at, chunk), until)
+                at += len(chunk)
 
     # following
 
@@ -299,6 +300,14 @@ class Document:
                 until = time.monotonic() + (float("inf") if timeout is None else timeout)
         finally:
             link.close()
+
+
+def runs(waiting: Dict[int, bytes]) -> List[Tuple[int, List[bytes]]]:
+    """Returns the lines whose requests follow one another, behind the first of these. (Between them are requests whose replies came: those of
+    questions may be forgotten before they are read, and the lines behind them are recorded.)
+    """
+    found = [list(its) for _, its in groupby(enumerate(waiting), lambda it: it[1] - it[0])]
+    return [(its[0][1], [waiting[it] for _, it in its]) for its in found]
 
 
 def entries(behind: int, row: Tuple[Any, ...], clients: Dict[str, uuid.UUID]) -> List[Entry]:

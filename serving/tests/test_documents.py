@@ -9,6 +9,7 @@ import time
 import unittest
 import uuid
 from typing import Any, ClassVar, List
+from unittest.mock import patch
 
 import psycopg
 from lines import changes, lines
@@ -21,6 +22,7 @@ sys.path.insert(0, os.path.join(ROOT, "tools"))
 from running import Dialogue, dialogues
 
 MADE = [b'["createElement",0,"p"]', b'["appendChild",0,1]', b'["tree",0]']
+QUESTION = b'["root",0]'
 REPLIES = [b'{"ok":1}', b'{"ok":1}', b'{"ok":[[0,0,9,"#document"],[1,1,1,"p",[]]]}']
 LEASE = "3"
 
@@ -118,6 +120,16 @@ class Replies(Served):
         with self.assertRaises(OtherLine):
             again.send([MADE[0]], request=4)
         self.assertEqual(again.ask(MADE[0]), b'{"ok":3}')
+
+    def test_questions_that_were_forgotten_are_asked_again(self) -> None:
+        """A client reads replies a minute after they came. It hands in the questions again, and no line between them."""
+        document = self.client.document("read late")
+        requests = document.post([QUESTION, MADE[0], QUESTION, MADE[0], MADE[0], QUESTION])
+        self.wait_until("select count(*) = 0 from huckleport.requests where document = %s", document.id)
+        self.connection.execute("delete from huckleport.answers where document = %s", (document.id,))
+        with patch("huckleport_serving.client.AGAIN", 0.1):
+            self.assertEqual([document.reply(it) for it in requests], [b'{"ok":%d}' % it for it in (0, 1, 0, 2, 3, 0)])
+        self.assertEqual([it.request for it in document.follow(timeout=0.1)], [2, 4, 5])
 
     def test_a_retry_that_comes_late_is_dropped(self) -> None:
         document = self.client.document("late")
