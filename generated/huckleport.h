@@ -1,21 +1,23 @@
 /** @file huckleport.h
  * Documents by the DOM Standard. Made by bindings/c/header.py from the exports of the library; not to be edited.
  *
- * Every call answers a status: HP_OK, or why it was refused. A refused call changes nothing of the session, and leaves what its out
- * pointers point at. Every call with a session can also answer HP_CLOSED. One that takes memory can answer HP_OUT_OF_MEMORY: the session
- * has then ended, and so answers every later command. What it holds is read still, by the calls that answer HP_ENDED in place of HP_OK:
- * each held node with its names and attributes, static ranges and walkers as before that call, all ranges, iterators and observers.
- * hp_close frees all of it.
+ * Every call returns a status: HP_OK, or why it was refused. A refused call changes neither the session nor the values at its out
+ * pointers. Every call with a session can also return HP_CLOSED. One that takes memory can return HP_OUT_OF_MEMORY. A question, or a
+ * call that makes an object, has then changed nothing, and the session goes on. Any other call ends the session, and every later command
+ * returns HP_OUT_OF_MEMORY. The state of an ended session can still be read, by the calls that return HP_ENDED in place of HP_OK: each
+ * stored node with its names and attributes, static ranges and walkers as before that call, all ranges, iterators and observers. hp_close
+ * frees all of it.
  *
- * Objects are told by numbers, each kind from 0 on, and no number is used again. Node 0 is a Document. HP_NONE stands for null.
+ * Objects are identified by numbers, each kind from 0 on, and no number is used again. Node 0 is a Document. HP_NONE stands for null.
  * Names are UTF-8: bytes and their count. Texts are UTF-16: units and their count. Null with a count of 0 is an empty one.
- * What is lent (hp_bytes, and the structs whose name ends in _view) is read only, and lies there until the next call with the session.
+ * Borrowed data (hp_bytes, and the structs whose name ends in _view) is read only, and valid until the next call with the session.
  *
- * C has to keep, since no call can test it:
+ * The caller has to ensure the following, since no call can test it:
  * - a session is HP_SESSION_INIT, all zero bytes, before its first hp_open; only calls change it, and no two copies of it are used;
- * - pointers point at what their type says, and a count is how many units or bytes stand at the pointer before it, a capacity
- *   how many may be written there;
- * - what a call is handed stands apart: no two out pointers at one place, and nothing that the same session lent (copy it first);
+ * - pointers point at values of their type. A count is the number of units or bytes at the pointer before it, a capacity the number
+ *   that may be written there;
+ * - the arguments of a call do not overlap: no two out pointers are equal, and no argument is borrowed from the same session (copy it
+ *   first);
  * - a session is used by one thread at a time. Different sessions may be used by different threads at once;
  * - no call is made in a signal handler, nor in the forked child of a process with threads; malloc, realloc and free are one allocator's.
  */
@@ -64,8 +66,8 @@ extern "C" {
 #define HP_BAD_COMMAND 38
 /** Printed as bad-arguments. */
 #define HP_BAD_ARGUMENTS 39
-/** Out of memory, now or at an earlier call: the session has ended. It takes no command, and its nodes can still be
- * read. */
+/** Out of memory. Either nothing has changed and the session goes on, or it has ended, now or at an earlier call: it
+ * takes no command, and its nodes can still be read. */
 #define HP_OUT_OF_MEMORY 48
 /** The handle is closed. */
 #define HP_CLOSED 49
@@ -81,7 +83,7 @@ extern "C" {
 #define HP_BAD_CHOICE 54
 /** The last answer, or the node, has no such part. */
 #define HP_NOT_THERE 55
-/** The session has ended, as it was out of memory once. The answer is from the world it still holds. */
+/** The session has ended, as an edit was out of memory once. The answer is from the world it still holds. */
 #define HP_ENDED 56
 /** The number that stands for null; no object has it. */
 #define HP_NONE ((uint32_t)4294967295u)
@@ -182,6 +184,13 @@ typedef struct hp_node_links {
     size_t children;
     size_t length;
 } hp_node_links;
+
+/** A node of a subtree: its number, its parent, or HP_NONE, and the standard's number of its kind (nodeType). */
+typedef struct hp_subtree_row {
+    uint32_t node;
+    uint32_t parent;
+    uint8_t kind;
+} hp_subtree_row;
 
 /** The number of objects of each kind that were made, and neither discarded nor released. The registrations are
  * those of all observers, with the transient ones. */
@@ -550,6 +559,18 @@ uint8_t hp_children_into(hp_session *session, uint32_t node, uint32_t *numbers, 
 
 /** @} */
 
+/** @name The nodes of a subtree, copied without a command: the last answer stays, and no memory is taken. A session that has ended still answers, from the world it holds, with `HP_ENDED`
+ * @{ */
+
+/** Copies the nodes of a subtree into an array, in tree order from start on, as many as there is room for. It writes
+ * how many, and the node that comes next, where a further call starts, or HP_NONE. The rest of the array stays. If
+ * start is no inclusive descendant of root, it says HP_NOT_THERE. A call climbs from start to root first; then a
+ * whole walk takes constant time a node.
+ * @return HP_OK, or why it was refused. */
+uint8_t hp_subtree_into(hp_session *session, uint32_t root, uint32_t start, hp_subtree_row *rows, size_t rows_capacity, size_t *count, uint32_t *next);
+
+/** @} */
+
 /** @name Borrowing a node's name, data and attributes without a command: the last answer stays, and no memory is taken. A session that has ended still lends, with `HP_ENDED`
  * @{ */
 
@@ -878,7 +899,7 @@ uint8_t hp_release_observer(hp_session *session, uint32_t observer);
 /** @} */
 
 /** @cond */
-/* What stands in for null and for what is not set yet: the calls below are reached by the names of those above. */
+/* The functions below replace null pointers and unset views. Macros give them the names of the calls above. */
 
 static const uint64_t hp_nothing[1] = { 0 };
 
@@ -1041,6 +1062,14 @@ static inline uint8_t hp_children_into_mended(hp_session *session, uint32_t node
     return hp_children_into(session, node, numbers ? numbers : (uint32_t *)hp_nothing, numbers_capacity, count);
 }
 #define hp_children_into(...) hp_children_into_mended(__VA_ARGS__)
+
+static inline uint8_t hp_subtree_into_mended(hp_session *session, uint32_t root, uint32_t start, hp_subtree_row *rows, size_t rows_capacity, size_t *count, uint32_t *next)
+{
+    if ((!rows && rows_capacity))
+        return HP_BAD_LENGTHS;
+    return hp_subtree_into(session, root, start, rows ? rows : (hp_subtree_row *)hp_nothing, rows_capacity, count, next);
+}
+#define hp_subtree_into(...) hp_subtree_into_mended(__VA_ARGS__)
 
 static inline uint8_t hp_name_of_mended(hp_session *session, uint32_t node, uint8_t part, hp_bytes *out)
 {
