@@ -303,8 +303,9 @@ class Document:
 
 
 def runs(waiting: Dict[int, bytes]) -> List[Tuple[int, List[bytes]]]:
-    """Returns the lines whose requests follow one another, behind the first of these. (Between them are requests whose replies came: those of
-    questions may be forgotten before they are read, and the lines behind them are recorded.)
+    """Returns the lines whose requests follow one another, each list with the request of its first line.
+
+    Between these lists are requests whose replies came. The replies to questions may be forgotten before they are read. Changes are recorded.
     """
     found = [list(its) for _, its in groupby(enumerate(waiting), lambda it: it[1] - it[0])]
     return [(its[0][1], [waiting[it] for _, it in its]) for its in found]
