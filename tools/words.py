@@ -136,6 +136,7 @@ def faults_of_code(path):
                 if len(sentence.split()) > MOST_WORDS:
                     yield f"{path}:{line + more - 1}: {len(sentence.split())} words in one sentence: {sentence[:90]}"
 
+
 def files_of(patterns):
     found = {os.path.relpath(it, ROOT) for pattern in patterns for it in glob.glob(f"{ROOT}/{pattern}", recursive=True)}
     return sorted(it for it in found if not MADE & {*it.split("/")})
