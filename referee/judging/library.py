@@ -8,6 +8,7 @@ sys.path.insert(0, os.path.join(ROOT, "bindings/c"))
 from declared import header, library
 
 MOST, LONGEST = 4294967295, 1048576
+OUT_OF_MEMORY = 48
 
 
 class Library:
@@ -29,8 +30,8 @@ class Session:
 
     def ask(self, line, seconds=None):
         given = (ctypes.c_uint8 * len(line)).from_buffer_copy(line)
-        self.calls.hp_line(ctypes.byref(self.session), given, len(line))
-        if self.calls.hp_reply_line(ctypes.byref(self.session), ctypes.byref(self.lent)):
+        status = self.calls.hp_line(ctypes.byref(self.session), given, len(line))
+        if status == OUT_OF_MEMORY or self.calls.hp_reply_line(ctypes.byref(self.session), ctypes.byref(self.lent)):
             raise MemoryError("no reply")
         return ctypes.string_at(getattr(self.lent, self.pointer), self.lent.length).rstrip(b"\n")
 

@@ -165,7 +165,9 @@ export class Session {
     this.renewed();
     this.attributes++;
     this.classes++;
-    // (what the line refuses stands in the reply)
+    // (a line that is refused memory has no reply: the core still lends the one before)
+    if (status === native.HP_OUT_OF_MEMORY) check(status);
+    // (another refusal is in the reply)
     return lent(native.hp_reply_line(this.index));
   }
 

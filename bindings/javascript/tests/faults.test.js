@@ -200,6 +200,22 @@ test("the memory of the module can be bounded, and a making that is refused ends
   session.close();
 });
 
+test("a line that is refused memory has no reply", () => {
+  const session = new Session();
+  const line = `["createText",0,"${"x".repeat(100000)}"]`;
+  let made = 0;
+  memory.limit(memory.size + 1048576);
+  try {
+    assert.throws(() => {
+      for (;;) assert.equal(session.line(line), `{"ok":${++made}}\n`);
+    }, RangeError);
+  } finally {
+    memory.limit(0);
+  }
+  assert.equal(session.line(line), `{"ok":${made}}\n`);
+  session.close();
+});
+
 test("a session that has ended is read and serialized as before, and no other ends", () => {
   const session = new Session();
   const other = new Session();

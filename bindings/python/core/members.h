@@ -168,7 +168,8 @@ static PyObject *calls_read_line(PyObject *self, PyObject *words)
     uint8_t status = hp_line(session_at(self), line.at, line.length);
     ((Calls *)self)->epoch++;
     ((Calls *)self)->has_lines = true;
-    PyObject *reply = line_answer(session_at(self));
+    /* (a line that is refused memory has no reply: the library still lends the one before) */
+    PyObject *reply = status == HP_OUT_OF_MEMORY ? none() : line_answer(session_at(self));
     return reply ? Py_BuildValue("iN", (int)status, reply) : NULL;
 }
 

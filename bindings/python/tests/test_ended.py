@@ -99,6 +99,26 @@ except h.SessionClosed as fault:
     print(fault.name)
 """
 
+LINES = """
+import resource
+import huckleport as h
+
+session, limits, replies = h.Session(), resource.getrlimit(resource.RLIMIT_AS), []
+line = b'["createText",0,"' + b"x" * 900000 + b'"]'
+with open("/proc/self/statm") as it:
+    room = int(it.read().split()[0]) * resource.getpagesize()
+resource.setrlimit(resource.RLIMIT_AS, (room + (24 << 20), limits[1]))
+refused = 0
+while refused < 3:
+    try:
+        replies.append(session.line(line))
+    except h.OutOfMemory:
+        refused += 1
+resource.setrlimit(resource.RLIMIT_AS, limits)
+replies.append(session.line(line))
+print(len(replies) > 2, replies == [b'{"ok":%d}\\n' % number for number in range(1, len(replies) + 1)])
+"""
+
 DUE = "read True\nread True\nout-of-memory\nno-such-object\n<p></p>\nclosed\n"
 
 
@@ -107,6 +127,10 @@ class Ended(unittest.TestCase):
     def test_ended(self):
         ran = subprocess.run([sys.executable, "-c", SOURCE], stdout=subprocess.PIPE, stderr=subprocess.STDOUT, universal_newlines=True)
         self.assertEqual(ran.stdout, DUE)
+
+    def test_a_line_that_is_refused_memory_has_no_reply(self):
+        ran = subprocess.run([sys.executable, "-c", LINES], stdout=subprocess.PIPE, stderr=subprocess.STDOUT, universal_newlines=True)
+        self.assertEqual(ran.stdout, "True True\n")
 
 
 if __name__ == "__main__":
