@@ -200,22 +200,6 @@ test("the memory of the module can be bounded, and a making that is refused ends
   session.close();
 });
 
-test("a line that is refused memory has no reply", () => {
-  const session = new Session();
-  const line = `["createText",0,"${"x".repeat(100000)}"]`;
-  let made = 0;
-  memory.limit(memory.size + 1048576);
-  try {
-    assert.throws(() => {
-      for (;;) assert.equal(session.line(line), `{"ok":${++made}}\n`);
-    }, RangeError);
-  } finally {
-    memory.limit(0);
-  }
-  assert.equal(session.line(line), `{"ok":${made}}\n`);
-  session.close();
-});
-
 test("a session that has ended is read and serialized as before, and no other ends", () => {
   const session = new Session();
   const other = new Session();
@@ -296,4 +280,20 @@ test("a list of classes is refused if out of memory, and is read later", () => {
   }
   assert.equal(list.length, items.length);
   assert.equal(list.item(0), root.firstChild);
+});
+
+test("a line that is refused memory has no reply", () => {
+  const session = new Session();
+  const line = `["createText",0,"${"x".repeat(100000)}"]`;
+  let made = 0;
+  memory.limit(memory.size + 1048576);
+  try {
+    assert.throws(() => {
+      for (;;) assert.equal(session.line(line), `{"ok":${++made}}\n`);
+    }, RangeError);
+  } finally {
+    memory.limit(0);
+  }
+  assert.equal(session.line(line), `{"ok":${made}}\n`);
+  session.close();
 });
