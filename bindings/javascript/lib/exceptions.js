@@ -100,6 +100,6 @@ export function exceptionFor(realm, refusal) {
   const message = refusal.message || (MESSAGES.get(status) ?? "");
   if (status === native.HP_TYPE_ERROR) return new realm.global.TypeError(message);
   if (status === TOO_LONG) return new realm.global.RangeError("the text is longer than the longest string");
-  if (status === native.HP_OUT_OF_MEMORY) return new realm.global.RangeError("out of memory: the session has ended, and refuses every later change like this");
+  if (status === native.HP_OUT_OF_MEMORY) return new realm.global.RangeError("out of memory: nothing has changed, or the session has ended: then it refuses every later change like this");
   return new realm.interfaces.DOMException(message, nameOf(status));
 }

@@ -294,6 +294,6 @@ test("a line that is refused memory has no reply", () => {
   } finally {
     memory.limit(0);
   }
-  assert.equal(session.line(line), `{"ok":${made}}\n`);
+  assert.equal(session.line(line), `{"ok":${made + 1}}\n`);
   session.close();
 });
