@@ -257,10 +257,11 @@ void __wrap_free(void *at)
         slabs_left_and_freed();
 }
 
+/* (A block that malloc has made has more than MOST_SIZE bytes, so that a smaller size is copied from within it.) */
 void *__wrap_realloc(void *at, size_t size)
 {
     size_t grains = at ? *word_of(at) : 0, room = grains * GRAIN - (grains ? WORD : 0);
-    if (at && !grains && size > SLAB / 256)
+    if (at && !grains && size > MOST_SIZE)
         return size > SIZE_MAX - GRAIN ? NULL : large_made(__real_realloc((char *)at - GRAIN, size + GRAIN));
     if (grains && size <= room)
         return at;

@@ -1,6 +1,8 @@
 """The extension module: what it takes of Python is all in the stable ABI of 3.8, and it shows one name."""
+import os
 import shutil
 import subprocess
+import sys
 import unittest
 
 import huckleport as h
@@ -49,6 +51,18 @@ class Module(unittest.TestCase):
         # (3.8 ends with a crash where one without is made)
         with h.Session() as session:
             self.assertIn("node document", type(session._calls.node(0)).__doc__)
+
+
+@unittest.skipUnless(shutil.which("valgrind"), "there is no valgrind")
+@unittest.skipIf(float(os.environ.get("HUCKLEPORT_SECONDS", "6")) < 3, "valgrind takes long")
+class Memory(unittest.TestCase):
+    def test_blocks_that_grow(self):
+        """The module reads and writes no byte of others (what valgrind says of Python itself is left out)."""
+        words = "import huckleport as h; h.xml.parse('<a>' + '<b/>' * 300 + '</a>').document_element.clone_node(True)"
+        variables = {"PYTHONMALLOC": "malloc", "PYTHONPATH": os.path.dirname(os.path.dirname(os.path.abspath(h.__file__)))}
+        ran = subprocess.run(["valgrind", "-q", sys.executable, "-S", "-c", words], env={**os.environ, **variables}, stderr=subprocess.PIPE)
+        self.assertEqual(ran.returncode, 0)
+        self.assertNotIn(b"_core.abi3", ran.stderr)
 
 
 if __name__ == "__main__":
