@@ -5,10 +5,7 @@
 #include "wanting.h"
 #include <string.h>
 
-enum { PARAGRAPHS = 100,
-    LINES = 200,
-    NONE = 7,
-    ROOM = 1 << 20 };
+enum { PARAGRAPHS = 100, LINES = 200, NONE = 7, ROOM = 1 << 20 };
 
 struct said {
     size_t length;
@@ -53,13 +50,10 @@ static void line(struct said *to, const char *given)
 /* One of the further lines, about a paragraph. */
 static void further_line(char *to, size_t room, int at)
 {
-    static const char *const forms[] = {
-        "[\"createElement\",0,\"section\"]", "[\"createText\",0,\"more\"]", "[\"setAttribute\",%d,\"id\",\"it\"]", "[\"tree\",%d]",
-        "[\"cloneNode\",%d,true]", "[\"textContent\",%d]", "[\"nextNode\",0]", "[\"rangeText\",0]", "[\"walk\",0,\"nextNode\"]",
-        "[\"createRange\",0]", "[\"createStaticRange\",1,0,%d,1]", "[\"remove\",%d]", "[\"notify\"]", "[\"createObserver\"]",
-        "[\"createIterator\",%d,4294967295,[]]", "[\"createWalker\",%d,4294967295,[]]", "[\"observe\",0,%d,{\"childList\":true}]",
-        "[\"range\",0]", "[\"staticRange\",0]", "[\"children\",1]"
-    };
+    static const char *const forms[] = { "[\"createElement\",0,\"section\"]", "[\"createText\",0,\"more\"]", "[\"setAttribute\",%d,\"id\",\"it\"]", "[\"tree\",%d]",
+        "[\"cloneNode\",%d,true]", "[\"textContent\",%d]", "[\"nextNode\",0]", "[\"rangeText\",0]", "[\"walk\",0,\"nextNode\"]", "[\"createRange\",0]",
+        "[\"createStaticRange\",1,0,%d,1]", "[\"remove\",%d]", "[\"notify\"]", "[\"createObserver\"]", "[\"createIterator\",%d,4294967295,[]]",
+        "[\"createWalker\",%d,4294967295,[]]", "[\"observe\",0,%d,{\"childList\":true}]", "[\"range\",0]", "[\"staticRange\",0]", "[\"children\",1]" };
     int paragraph = 2 + 2 * (at % PARAGRAPHS);
     snprintf(to, room, forms[at % (int)(sizeof forms / sizeof *forms)], paragraph);
 }
@@ -76,8 +70,7 @@ static void further(struct said *to)
 }
 
 /* The questions and the takings of records that take memory, up to QUESTIONS, and the calls that make an object. */
-enum { QUESTIONS = 15,
-    CALLS = 31 };
+enum { QUESTIONS = 15, CALLS = 31 };
 
 static uint8_t ask(int number)
 {
