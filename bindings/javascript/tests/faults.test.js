@@ -235,14 +235,17 @@ test("a session that has ended is read and serialized as before, and no other en
   assert.equal(serialize(other.document.createElement("p")), "<p></p>");
 });
 
-test("ids of copies are found, also if out of memory when they were made", (t) => {
+test("ids of copies are found, also if out of memory when they were made", () => {
   const { document, root } = listOf(2);
   root.id = "list";
   const { holders } = native;
+  let copy;
   native.holders = () => native.HP_OUT_OF_MEMORY;
-  t.after(() => (native.holders = holders));
-  const copy = root.cloneNode(true);
-  native.holders = holders;
+  try {
+    copy = root.cloneNode(true);
+  } finally {
+    native.holders = holders;
+  }
   root.replaceWith(copy);
   assert.equal(document.getElementById("list"), copy);
   copy.id = "other";
