@@ -380,9 +380,21 @@ class PointInTime(unittest.TestCase):
         restored.make_standby_of(place.primary)
         os.rename(f"{restored.data}/standby.signal", f"{restored.data}/recovery.signal")
 
+    def wait_until_promoted(self, restored: Server) -> None:
+        for _ in range(600):
+            try:
+                with psycopg.connect(restored.conninfo, autocommit=True) as connection:
+                    if connection.execute("select pg_is_in_recovery()").fetchone() == (False,):
+                        return
+            except psycopg.OperationalError:
+                pass
+            time.sleep(0.1)
+        self.fail("the restored server takes no changes after a minute")
+
     def check(self, place: Place, restored: Server, given: List[bytes]) -> None:
         restored.start()
         try:
+            self.wait_until_promoted(restored)
             ran = place.command_of(["--database", restored.conninfo], "verify", stdout=subprocess.PIPE)
             self.assertEqual(ran.communicate()[0].decode(), f"in time: {len(changes(given))} lines, each reply the same\n")
         finally:
