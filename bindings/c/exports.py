@@ -12,12 +12,12 @@ SOURCES = os.path.join(ROOT, "crates/dom_c/src")
 
 # The modules in the order in which a header is read. Others come behind them.
 ORDER = (
-    "status version opening lines lending parts labels rows notices records telling places making editing copying asking nearby holding counting texts attributes "
+    "status version opening lines lending parts labels rows notices records telling places making editing copying asking nearby subtree holding counting texts attributes "
     "ranges points statics contents traversing observing"
 ).split()
 
 # The modules whose calls read or lend, and leave all that the session keeps.
-READING = set("lending parts labels rows notices records nearby holding counting".split())
+READING = set("lending parts labels rows notices records nearby subtree holding counting".split())
 
 SCALARS = {
     "u8": "uint8_t",

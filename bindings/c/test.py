@@ -5,6 +5,7 @@
 - each dialogue of dialogues through hp_line, byte for byte, and again through the calls of the header, from Python and from C;
 - each call with a closed session, and what is handed in wrongly;
 - what is read around a node and of what it holds, which takes no memory, and a hundred thousand children removed one by one;
+- the nodes of a subtree, copied with any room, beside what single calls tell, also of a session that has ended;
 - how many objects of each kind there are, as they come and go, told with no memory taken;
 - what is released, which no call finds and which keeps no tree, and the memory after a million of each kind;
 - each allocation refused in turn over all dialogues, and over one of the calls that copy names and texts;
@@ -194,6 +195,9 @@ class Tests:
         if self.alone("nearby", link=WRAPPED) is not None:
             self.must("a hundred thousand children removed, by the clock", os.path.join(self.work, "nearby"), "timed")
 
+    def subtree(self):
+        self.alone("subtree", link=WRAPPED)
+
     def counted(self):
         self.alone("counted", link=WRAPPED)
 
@@ -274,7 +278,7 @@ class Tests:
         return 1 if self.faults else 0
 
 
-PARTS = ("header", "lines", "typed", "closed", "misuse", "nearby", "counted", "released", "refused", "goes_on", "ended", "threads", "stacks", "example", "loading", "page")
+PARTS = ("header", "lines", "typed", "closed", "misuse", "nearby", "subtree", "counted", "released", "refused", "goes_on", "ended", "threads", "stacks", "example", "loading", "page")
 
 
 def main():

@@ -178,6 +178,10 @@ class Session(Reader):
             out = ctypes.c_uint32(7)
             self.must("hp_child_at", node, at, ctypes.byref(out))
             assert out.value == due, "hp_child_at"
+        rows, following = (self.structs["hp_subtree_row"] * 1)(), ctypes.c_uint32(7)
+        self.silently("hp_subtree_into", node, node, rows, 1, ctypes.byref(count), ctypes.byref(following))
+        assert (rows[0].node, rows[0].parent, rows[0].kind) == (node, links.parent, links.kind), "hp_subtree_into"
+        assert (count.value, following.value) == (1, links.first_child), "hp_subtree_into"
         ends = [children[0], children[-1]] if children else [MOST, MOST]
         assert [links.first_child, links.last_child] == ends, "hp_links"
         return links, children

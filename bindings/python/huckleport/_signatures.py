@@ -153,6 +153,7 @@ PARAMETERS: Dict[str, Tuple[str, ...]] = {
     "last_child": ("node",),
     "child_at": ("node", "index",),
     "children_into": ("node",),
+    "subtree_into": ("root", "start",),
     "name_of": ("node", "part",),
     "data_of": ("node",),
     "attribute_at": ("node", "index",),

@@ -162,6 +162,16 @@ pub(crate) struct hp_node_links {
     pub(crate) length: usize,
 }
 
+/// A node of a subtree: its number, its parent, or HP_NONE, and the standard's number of its kind (`nodeType`).
+#[repr(C)]
+#[derive(Clone, Copy, Default)]
+#[allow(non_camel_case_types)]
+pub(crate) struct hp_subtree_row {
+    pub(crate) node: u32,
+    pub(crate) parent: u32,
+    pub(crate) kind: u8,
+}
+
 /// The number of objects of each kind that were made, and neither discarded nor released. The registrations are those of all observers, with the transient ones.
 #[repr(C)]
 #[derive(Clone, Copy, Default)]
@@ -264,6 +274,7 @@ extern "C" {
     fn hp_last_child(session: *mut hp_session, node: u32, child: *mut u32) -> u8;
     fn hp_child_at(session: *mut hp_session, node: u32, index: usize, child: *mut u32) -> u8;
     fn hp_children_into(session: *mut hp_session, node: u32, numbers: *mut u32, numbers_capacity: usize, count: *mut usize) -> u8;
+    fn hp_subtree_into(session: *mut hp_session, root: u32, start: u32, rows: *mut hp_subtree_row, rows_capacity: usize, count: *mut usize, next: *mut u32) -> u8;
     fn hp_name_of(session: *mut hp_session, node: u32, part: u8, out: *mut hp_bytes) -> u8;
     fn hp_data_of(session: *mut hp_session, node: u32, out: *mut hp_text_view) -> u8;
     fn hp_attribute_at(session: *mut hp_session, node: u32, index: usize, name: *mut hp_bytes, value: *mut hp_text_view) -> u8;
@@ -785,6 +796,14 @@ impl Handle {
         // SAFETY: as at the head of the file.
         let status = read(unsafe { hp_children_into(self.session.get(), node, numbers.as_mut_ptr(), numbers.len(), &mut out) });
         if status == HP_OK { Ok(out) } else { Err(status) }
+    }
+
+    pub(crate) fn subtree_into(&self, root: u32, start: u32, rows: &mut [hp_subtree_row]) -> Result<(usize, u32), u8> {
+        let mut count = 0;
+        let mut next = 0;
+        // SAFETY: as at the head of the file.
+        let status = read(unsafe { hp_subtree_into(self.session.get(), root, start, rows.as_mut_ptr(), rows.len(), &mut count, &mut next) });
+        if status == HP_OK { Ok((count, next)) } else { Err(status) }
     }
 
     pub(crate) fn name_of(&self, node: u32, part: u8) -> Result<&[u8], u8> {

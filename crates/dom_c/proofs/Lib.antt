@@ -3,6 +3,7 @@ pub mod Names
 pub mod TooFew
 pub mod OpenReads
 pub mod Copies
+pub mod Subtrees
 pub mod Faults
 pub mod Asked
 pub mod Spared

@@ -13,5 +13,6 @@ pub mod Rows
 pub mod Records
 pub mod Nearby
 pub mod Holding
+pub mod Subtree
 pub mod Counting
 pub mod Version

@@ -35,6 +35,7 @@ pub mod rows;
 pub mod slot;
 pub mod statics;
 pub mod status;
+pub mod subtree;
 pub mod telling;
 pub mod texts;
 pub mod traversing;

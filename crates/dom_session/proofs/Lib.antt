@@ -16,5 +16,6 @@ pub mod OtherKinds
 pub mod Unfelt
 pub mod ContentsAnswers
 pub mod Laying
+pub mod Subtrees
 pub mod WorldsKept
 pub mod GoingOn

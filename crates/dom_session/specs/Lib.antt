@@ -8,6 +8,7 @@ pub mod Printing
 pub mod Codes
 pub mod Links
 pub mod Lending
+pub mod Subtree
 pub mod InUse
 pub mod Ending
 pub mod GoingOn

@@ -30,6 +30,7 @@ mod reply;
 mod session;
 mod setting;
 mod statics;
+mod subtree;
 mod texts;
 mod traversing;
 
@@ -51,3 +52,4 @@ pub use in_use::Counts;
 pub use links::Links;
 pub use reply::{Answer, Description, Reply, TreeRow};
 pub use session::{Ended, Limits, OutOfMemory, Session};
+pub use subtree::{NodeRow, SubtreeNode, SubtreePart};

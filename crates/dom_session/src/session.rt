@@ -1,6 +1,6 @@
 //! One session over one world.
 
-ghost use Rattle.std.specs.Prelude.{◌≡◌, ℕ, ◌≤◌, true, false, Err, IsErr, IfOk, OnOk, OnErr};
+ghost use Rattle.std.specs.Prelude.{◌≡◌, ℕ, ◌≤◌, true, false, length, Err, IsErr, IfOk, OnOk, OnErr};
 ghost use Rattle.dom_model.specs.Worlds.World.{World as PlainWorld, first_world};
 ghost use Rattle.dom_model.specs.Forests.Forest.{children_of};
 ghost use Rattle.dom_model.specs.Commands.Command.{CreateElement, CreateText, NextNode, PreviousNode, Walk, HasAttribute};
@@ -15,6 +15,7 @@ ghost use Rattle.dom_session.specs.Bounding.{bounds_of};
 ghost use Rattle.dom_session.specs.InUse.{in_use_of, in_use_in};
 ghost use Rattle.dom_session.specs.Links.{links_in, first_child_in, last_child_in, child_in, count_in, laid_over};
 ghost use Rattle.dom_session.specs.Lending.{lent_as, lent_whole, label_in, data_in, attribute_in};
+ghost use Rattle.dom_session.specs.Subtree.{part_in, laid_in};
 ghost use Rattle.dom_attrs.specs.Entries.{attribute_at};
 
 use crate::answering::answered;
@@ -27,6 +28,7 @@ use crate::in_use::{self, Counts};
 use crate::links::{self, Links};
 use crate::making::{create_element, create_text, make_nodes};
 use crate::reply::Reply;
+use crate::subtree::{self, NodeRow, SubtreePart};
 use crate::traversing::{next_node, previous_node, walk};
 use crate::{lending, reading};
 use dom_edit::World;
@@ -398,6 +400,28 @@ impl Session {
             into.old }
     {
         links::copy_children(&self.world.tree, node, into)
+    }
+
+    /// Copies the nodes of the subtree of `root` over the front of a slice, in tree order from `start` on, as far as there is room. Returns how many,
+    /// and the node that comes next; none if `start` is no inclusive descendant of `root`.
+    ///
+    /// It climbs from `start` to `root`, and then takes constant time a node, as a whole walk does. It takes no memory.
+    pub fn copy_subtree<R: NodeRow>(
+        &self,
+        root: NodeId,
+        start: NodeId,
+        into: &mut [R],
+    ) -> Result<Option<SubtreePart>, OwnError>
+        ensures part { (w : PlainWorld) → StandsFor self.now w →
+            result ≡ part_in (length into.old) w.forest root start }
+        ensures copied { (w : PlainWorld) → StandsFor self.now w →
+            into.new ≡ laid_in R.row_of w.forest root start into.old }
+        ensures own_part { result ≡ part_in (length into.old) self.now.world.tree.forest root
+            start }
+        ensures own_copied { into.new
+            ≡ laid_in R.row_of self.now.world.tree.forest root start into.old }
+    {
+        subtree::copy_subtree(&self.world.tree, root, start, into)
     }
 
     /// Borrows the label of a node: its kind and its names.
