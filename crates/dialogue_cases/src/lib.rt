@@ -16,7 +16,7 @@ mod observers;
 #[cfg(test)]
 mod ranges;
 #[cfg(test)]
-mod recovering;
+mod failing_once;
 #[cfg(test)]
 mod refusals;
 #[cfg(test)]

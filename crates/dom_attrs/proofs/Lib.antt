@@ -1,3 +1,3 @@
 pub mod EntriesLemmas
-pub mod InOrder
+pub mod TakeLemmas
 pub mod AttributeLemmas

@@ -9,8 +9,8 @@ abbrev pub attribute_of : {Z : Type 0} → String Z × List ℕ → Attribute
 attribute_of e = record { name = string_bytes e.0; value = e.1 }
 
 -- the entries, in order
-abbrev pub attributes_of : {Z : Type 0} → List (String Z × List ℕ) → List Attribute
-attributes_of entries = map attribute_of entries
+abbrev pub entry_attributes : {Z : Type 0} → List (String Z × List ℕ) → List Attribute
+entry_attributes entries = map attribute_of entries
 
 -- a name and a value that are lent
 abbrev pub attribute_at : Bor (List ℕ) × Bor (List ℕ) → Attribute

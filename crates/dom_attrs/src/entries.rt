@@ -3,7 +3,7 @@ ghost use Rattle.std.specs.Prelude.{◌≡◌, [], length, slice_get, option_map
 ghost use Rattle.std.specs.List.{IsDistinct, list_any};
 ghost use Rattle.std.specs.Map.{keys_of};
 ghost use Rattle.dom_model.specs.Forests.Attributes.{attribute_value, attribute_names, with_attribute, without_attribute, is_attribute};
-ghost use Rattle.dom_attrs.specs.Entries.{attribute_at, attributes_of, entries_in};
+ghost use Rattle.dom_attrs.specs.Entries.{attribute_at, entry_attributes, entries_in};
 
 use dom_units::Units;
 use indexmap::IndexMap;
@@ -14,15 +14,15 @@ const FEW: usize = 9;
 
 // Returns the number of attributes.
 pub(crate) fn count_in(map: &IndexMap<String, Units>) -> usize
-    ensures len { result ≡ length (attributes_of map.now.entries) }
-    ensures distinct { IsDistinct bytes_eq (attribute_names (attributes_of map.now.entries)) }
+    ensures len { result ≡ length (entry_attributes map.now.entries) }
+    ensures distinct { IsDistinct bytes_eq (attribute_names (entry_attributes map.now.entries)) }
 {
     map.len()
 }
 
 // Returns the value of the attribute with a name.
 pub(crate) fn value_in<'a>(map: &'a IndexMap<String, Units>, name: &str) -> Option<&'a Units>
-    ensures { option_copied result ≡ attribute_value name.now (attributes_of map.now.entries) }
+    ensures { option_copied result ≡ attribute_value name.now (entry_attributes map.now.entries) }
 {
     map.get(name)
 }
@@ -31,7 +31,7 @@ pub(crate) fn value_in<'a>(map: &'a IndexMap<String, Units>, name: &str) -> Opti
 pub(crate) fn has_in(map: &IndexMap<String, Units>, name: &str, value: &Units) -> bool
     requires { IsDistinct string_eq (keys_of map.now.entries) }
     ensures { result ≡ list_any (is_attribute (record { name = name.now; value = value.now }))
-        (attributes_of map.now.entries) }
+        (entry_attributes map.now.entries) }
 {
     match map.get(name) {
         None => false,
@@ -41,7 +41,7 @@ pub(crate) fn has_in(map: &IndexMap<String, Units>, name: &str, value: &Units) -
 
 // Returns the attribute at an index.
 pub(crate) fn pair_in(map: &IndexMap<String, Units>, index: usize) -> Option<(&str, &Units)>
-    ensures { option_map attribute_at result ≡ slice_get (attributes_of map.now.entries) index }
+    ensures { option_map attribute_at result ≡ slice_get (entry_attributes map.now.entries) index }
 {
     match map.get_index(index) {
         None => None,
@@ -70,9 +70,9 @@ pub(crate) fn put_in(
     value: Units,
 ) -> Result<Option<Units>, AllocError>
     ensures old { IfOk result (λ old. old ≡ attribute_value (string_bytes name)
-        (attributes_of map.old.entries)) }
-    ensures ok { OnOk result (attributes_of map.new.entries
-        ≡ with_attribute (string_bytes name) value (attributes_of map.old.entries)) }
+        (entry_attributes map.old.entries)) }
+    ensures ok { OnOk result (entry_attributes map.new.entries
+        ≡ with_attribute (string_bytes name) value (entry_attributes map.old.entries)) }
     ensures err { OnErr result (map.new.entries ≡ map.old.entries) }
     ensures unique { IsDistinct string_eq (keys_of map.new.entries) }
 {
@@ -108,9 +108,9 @@ fn give_back(map: &mut IndexMap<String, Units>)
 
 // Removes the attribute with a name, and returns its value.
 pub(crate) fn take_from(map: &mut IndexMap<String, Units>, name: &str) -> Option<Units>
-    ensures value { result ≡ attribute_value name.now (attributes_of map.old.entries) }
-    ensures rest { attributes_of map.new.entries ≡ without_attribute name.now
-        (attributes_of map.old.entries) }
+    ensures value { result ≡ attribute_value name.now (entry_attributes map.old.entries) }
+    ensures rest { entry_attributes map.new.entries ≡ without_attribute name.now
+        (entry_attributes map.old.entries) }
     ensures unique { IsDistinct string_eq (keys_of map.new.entries) }
 {
     let value = map.shift_remove(name);
@@ -123,8 +123,8 @@ pub(crate) fn copied(
     alloc: Global,
     map: &IndexMap<String, Units>,
 ) -> Result<Box<IndexMap<String, Units>>, AllocError>
-    ensures same { IfOk result (λ copy. attributes_of copy.value.entries
-        ≡ attributes_of map.now.entries) }
+    ensures same { IfOk result (λ copy. entry_attributes copy.value.entries
+        ≡ entry_attributes map.now.entries) }
     ensures unique { IfOk result (λ copy. IsDistinct string_eq (keys_of copy.value.entries)) }
 {
     let copy = map.clone()?;

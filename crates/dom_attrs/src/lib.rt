@@ -29,11 +29,11 @@ impl Model for Attrs {
     ghost use Rattle.std.specs.Prelude.{string_eq};
     ghost use Rattle.std.specs.List.{IsDistinct};
     ghost use Rattle.std.specs.Map.{keys_of};
-    ghost use Rattle.dom_attrs.specs.Entries.{entries_in, attributes_of};
+    ghost use Rattle.dom_attrs.specs.Entries.{entries_in, entry_attributes};
 
     ghost Value = { List Attribute };
 
-    ghost view = { λ a. attributes_of (entries_in a.map) };
+    ghost view = { λ a. entry_attributes (entries_in a.map) };
 
     ghost invariant = { λ a. IsDistinct string_eq (keys_of (entries_in a.map)) };
 }

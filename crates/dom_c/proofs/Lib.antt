@@ -1,9 +1,9 @@
-pub mod Held
-pub mod Names
-pub mod TooFew
-pub mod OpenReads
-pub mod Copies
+pub mod HeldLemmas
+pub mod Utf8NameLemmas
+pub mod RulesFromLemmas
+pub mod IsReadOrEndedLemmas
+pub mod LaidOverLemmas
 pub mod Subtrees
-pub mod Faults
-pub mod Asked
+pub mod FaultLemmas
+pub mod AsksLemmas
 pub mod Spared

@@ -4,27 +4,27 @@ use Rattle.std.proofs.lemmas.Bool.{false≢true}
 use Rattle.dom_model.specs.Definitions.{Command, World}
 use Rattle.dom_model.specs.Commands.Reply.{is_refusal}
 use Rattle.dom_session.specs.declared.reply.Reply.{Reply}
-use Rattle.dom_session.specs.Stands.{IsAnswered}
-use Rattle.dom_wire.specs.Sessions.{Held, StandsFor, IsAsBefore, reply_view}
-use Rattle.dom_c.specs.{Answers.Ends, Answers.Steps, Answers.spares, Answers.step_for, Answers.with_reply, Answers.at_end, Lines.TakesLine, Lines.step_for_line, Statuses.status_of, Statuses.out_of_memory, declared.kept.Kept.Kept}
+use Rattle.dom_session.specs.SessionViews.{IsAnswered}
+use Rattle.dom_wire.specs.Sessions.{SessionView, StandsFor, IsAsBefore, reply_view}
+use Rattle.dom_c.specs.{Answers.Ends, Answers.StepsState, Answers.spares, Answers.step_for, Answers.with_reply, Answers.at_end, Lines.TakesLine, Lines.step_for_line, Statuses.status_of, Statuses.out_of_memory, declared.handle_state.HandleState.HandleState}
 
 -- a session that is as before is open if it was open
-pub stays_open : (old new : Held) → IsAsBefore old new → new.ended ≡ old.ended
-stays_open old new kept = ap (λ (s : Held). s.ended) kept.is
+pub stays_open : (old new : SessionView) → IsAsBefore old new → new.ended ≡ old.ended
+stays_open old new kept = ap (λ (s : SessionView). s.ended) kept.is
 
 -- so the call has not ended it
-pub not_ended : (old new : Held) → IsAsBefore old new → old.ended ≡ false → new.ended ≡ true → ⊥
+pub not_ended : (old new : SessionView) → IsAsBefore old new → old.ended ≡ false → new.ended ≡ true → ⊥
 not_ended old new kept is_open ended = false≢true (sym is_open ∙ sym (stays_open old new kept) ∙ ended)
 
 -- a session that is as it was, and has ended, had ended before
-pub had_ended : (old new : Held) → new ≡ old → old.ended ≡ false → new.ended ≡ true → ⊥
-had_ended old new same is_open ended = false≢true (sym is_open ∙ sym (ap (λ (s : Held). s.ended) same) ∙ ended)
+pub had_ended : (old new : SessionView) → new ≡ old → old.ended ≡ false → new.ended ≡ true → ⊥
+had_ended old new same is_open ended = false≢true (sym is_open ∙ sym (ap (λ (s : SessionView). s.ended) same) ∙ ended)
 
-abbrev pub with_session : Kept → Held → Kept
+abbrev pub with_session : HandleState → SessionView → HandleState
 with_session k s = record { session = s; reply = k.reply; line = k.line; limit = k.limit; ended = k.ended; alloc = k.alloc }
 
 -- a call after the end
-pub steps-after_end : (c : Result Command ℕ) (k : Kept) → k.ended ≡ true → Steps c k k out_of_memory
+pub steps-after_end : (c : Result Command ℕ) (k : HandleState) → k.ended ≡ true → StepsState c k k out_of_memory
 steps-after_end c k ended = record {
   ends = subst (λ (q : Bool). Ends q (step_for k c) k k out_of_memory) (sym ended) refl;
   goes_on = λ _ _. refl;
@@ -35,7 +35,7 @@ steps-after_end c k ended = record {
 }
 
 -- arguments that make no command
-pub steps-malformed : (malformed : ℕ) (k : Kept) → k.ended ≡ false → Steps (Err malformed) k k malformed
+pub steps-malformed : (malformed : ℕ) (k : HandleState) → k.ended ≡ false → StepsState (Err malformed) k k malformed
 steps-malformed malformed k on = record {
   ends = subst (λ (q : Bool). Ends q (step_for k (Err malformed)) k k malformed) (sym on) (on, inl (refl, refl));
   goes_on = λ _ _. refl;
@@ -46,7 +46,7 @@ steps-malformed malformed k on = record {
 }
 
 -- a session that took the step of a command
-pub steps-taken : (c : Command) (k : Kept) (s : Held) (reply : Reply) → k.ended ≡ false → ((w : World) → StandsFor k.session w → IsAnswered reply w k.session s c) → (is_refusal (reply_view reply) ≡ true → s ≡ k.session) → s.ended ≡ false → s.bounds ≡ k.session.bounds → Steps (Ok c) k (with_reply (with_session k s) reply) (status_of (reply_view reply))
+pub steps-taken : (c : Command) (k : HandleState) (s : SessionView) (reply : Reply) → k.ended ≡ false → ((w : World) → StandsFor k.session w → IsAnswered reply w k.session s c) → (is_refusal (reply_view reply) ≡ true → s ≡ k.session) → s.ended ≡ false → s.bounds ≡ k.session.bounds → StepsState (Ok c) k (with_reply (with_session k s) reply) (status_of (reply_view reply))
 steps-taken c k s reply on answers refused is_open bounds = record {
   ends = subst (λ (q : Bool). Ends q (step_for k (Ok c)) k (with_reply (with_session k s) reply) (status_of (reply_view reply))) (sym on)
       (on, inl (record {
@@ -63,7 +63,7 @@ steps-taken c k s reply on answers refused is_open bounds = record {
 }
 
 -- a session that goes on
-pub steps-spared : (c : Result Command ℕ) (k : Kept) (s : Held) → k.ended ≡ false → IsAsBefore k.session s → s.bounds ≡ k.session.bounds → Steps c k (with_session k s) out_of_memory
+pub steps-spared : (c : Result Command ℕ) (k : HandleState) (s : SessionView) → k.ended ≡ false → IsAsBefore k.session s → s.bounds ≡ k.session.bounds → StepsState c k (with_session k s) out_of_memory
 steps-spared c k s on kept bounds = record {
   ends = subst (λ (q : Bool). Ends q (step_for k c) k (with_session k s) out_of_memory) (sym on) (on, inr (record { status_is = refl; session = kept; reply = refl; line = refl }));
   goes_on = λ _ _. refl;
@@ -74,7 +74,7 @@ steps-spared c k s on kept bounds = record {
 }
 
 -- a session that has ended, which a command that spares it does only if it had ended before
-pub steps-ended : (c : Result Command ℕ) (k : Kept) (s : Held) → s.bounds ≡ k.session.bounds → (spares c ≡ true → k.session.ended ≡ false → true ≡ k.ended) → Steps c k (at_end (with_session k s)) out_of_memory
+pub steps-ended : (c : Result Command ℕ) (k : HandleState) (s : SessionView) → s.bounds ≡ k.session.bounds → (spares c ≡ true → k.session.ended ≡ false → true ≡ k.ended) → StepsState c k (at_end (with_session k s)) out_of_memory
 steps-ended c k s bounds going = record {
   ends = refl;
   goes_on = going;
@@ -85,7 +85,7 @@ steps-ended c k s bounds going = record {
 }
 
 -- a line that is refused memory before anything has changed
-pub takes_line-spared : (line : List ℕ) (k : Kept) (s : Held) → k.ended ≡ false → IsAsBefore k.session s → s.bounds ≡ k.session.bounds → TakesLine line k (with_session k s) out_of_memory
+pub takes_line-spared : (line : List ℕ) (k : HandleState) (s : SessionView) → k.ended ≡ false → IsAsBefore k.session s → s.bounds ≡ k.session.bounds → TakesLine line k (with_session k s) out_of_memory
 takes_line-spared line k s on kept bounds = record {
   ends = subst (λ (q : Bool). Ends q (step_for_line line k) k (with_session k s) out_of_memory) (sym on) (on, inr (record { status_is = refl; session = kept; reply = refl; line = refl }));
   bounds = bounds;

@@ -2,9 +2,9 @@
 use Rattle.std.proofs.Common.{◌≡◌, ℕ, Bool, true, false, List, length, map, refl, ap, sym, subst, ◌∙◌, Option, Some, None, Result, Ok, Err}
 use Rattle.dom_model.specs.declared.OwnError.{OwnError}
 use Rattle.dom_model.specs.Definitions.{Forest, Content, World}
-use Rattle.dom_session.specs.{Links.laid_over, Lending.lent_as, Subtree.part_of, Subtree.part_in, Subtree.laid_where, Subtree.subtree_in, declared.subtree.SubtreeNode.SubtreeNode, declared.subtree.SubtreePart.SubtreePart}
+use Rattle.dom_session.specs.{Neighbours.laid_over, BorrowedData.lent_as, Subtree.part_of, Subtree.part_in, Subtree.laid_where, Subtree.subtree_in, declared.subtree.SubtreeNode.SubtreeNode, declared.subtree.SubtreePart.SubtreePart}
 use Rattle.dom_wire.specs.Sessions.{StandsFor, held_world}
-use Rattle.dom_c.specs.{Holding.status_of_lent, Holding.status_of_lent_at_end, Holding.lent_or_before, Holding.IsLentOrEnded, Holding.LendsKept, declared.kept.Kept.Kept}
+use Rattle.dom_c.specs.{BorrowedData.status_of_lent, BorrowedData.status_of_lent_at_end, BorrowedData.lent_or_before, BorrowedData.IsLentOrEnded, BorrowedData.LendsKept, declared.handle_state.HandleState.HandleState}
 
 abbrev pub status_at : {A : Type 0} → Bool → Result (Option A) OwnError → ℕ
 status_at true found = status_of_lent_at_end found
@@ -30,7 +30,7 @@ told-of room q (Ok None) before = refl
 told-of room q (Ok (Some nodes)) before = refl
 told-of room q (Err e) before = refl
 
-module _ (k : Kept) (o : Option Kept) (is : o ≡ Some k) (status room root start : ℕ) (found : Result (Option SubtreePart) OwnError)
+module _ (k : HandleState) (o : Option HandleState) (is : o ≡ Some k) (status room root start : ℕ) (found : Result (Option SubtreePart) OwnError)
     (shown : (w : World) → StandsFor k.session w → found ≡ part_in room w.forest root start)
     (own : found ≡ part_in room (held_world k.session).forest root start)
     (says : status ≡ status_at k.ended found) where
@@ -39,7 +39,7 @@ module _ (k : Kept) (o : Option Kept) (is : o ≡ Some k) (status room root star
       → after ≡ lent_or_before (lent_as tell (subtree_in (held_world k.session).forest root start)) before
       → LendsKept (λ f. lent_as tell (subtree_in f root start)) o before after status
   lends {B} tell before after told held =
-      subst (λ (q : Option Kept). LendsKept (λ f. lent_as tell (subtree_in f root start)) q before after status) (sym is) (at k.ended says)
+      subst (λ (q : Option HandleState). LendsKept (λ f. lent_as tell (subtree_in f root start)) q before after status) (sym is) (at k.ended says)
     where
       at : (b : Bool) → status ≡ status_at b found → IsLentOrEnded b (λ f. lent_as tell (subtree_in f root start)) k before after status
       at true s = record {

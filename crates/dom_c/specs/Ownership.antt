@@ -5,17 +5,17 @@ use denote.RawPtr.{Ptr}
 use Rattle.std.specs.Prelude.{Option, Some, None}
 use Rattle.std.specs.contracts.impls.GlobalAllocator.TheImpl.{ghosts}
 use Rattle.std_alloc.specs.Box.Ownership.{box_owns}
-use Rattle.dom_c.specs.contracts.lodged.Lodged.{the_row}
+use Rattle.dom_c.specs.contracts.stored_state.StoredState.{the_row}
 
 -- the right to free a block of the C library
-abbrev pub chunk : Ty → Ptr → Fml
-chunk = ghosts.dealloc_token (record { memory = record { seal = tt } })
+abbrev pub state_block : Ty → Ptr → Fml
+state_block = ghosts.dealloc_token (record { memory = record { seal = tt } })
 
 -- what a contract says of a session
-abbrev pub Told : Type 0
-Told = the_row.Denot
+abbrev pub StateValue : Type 0
+StateValue = the_row.Denot
 
 -- a session on the heap, or nothing
-abbrev pub held : Ptr → Option Told → Fml
+abbrev pub held : Ptr → Option StateValue → Fml
 held p None = ftrue
-held p (Some s) = box_owns chunk the_row p s
+held p (Some s) = box_owns state_block the_row p s

@@ -4,24 +4,24 @@ use Rattle.dom_model.specs.declared.RecordType.{RecordType}
 use Rattle.dom_model.specs.declared.RecordType.TheVariants.{ChildList, Attributes, CharacterData}
 use Rattle.dom_model.specs.MutationObservers.Record as plain
 use Rattle.dom_model.specs.Commands.Reply as model
-use Rattle.dom_c.specs.Told.{number_or_null}
+use Rattle.dom_c.specs.WrittenValues.{number_or_null}
 use Rattle.dom_c.specs.declared.notices.Notice.{Notice}
 use Rattle.dom_c.specs.declared.records.Record.{Record}
 
-abbrev pub notice_in : ℕ → model.Answer → Option plain.Told
+abbrev pub notice_in : ℕ → model.Answer → Option plain.Notification
 notice_in n (model.Notified ts) = slice_get ts n
 notice_in n _ = None
 
-abbrev pub notice_told : plain.Told → Notice
-notice_told t = record { observer = t.observer; records = length t.records }
+abbrev pub notice_out : plain.Notification → Notice
+notice_out t = record { observer = t.observer; records = length t.records }
 
 abbrev pub notice_at : ℕ → model.Answer → Option Notice
-notice_at n a = option_map notice_told (notice_in n a)
+notice_at n a = option_map notice_out (notice_in n a)
 
 -- the records of a notice; those that were taken stand as the first
 abbrev pub records_in : ℕ → model.Answer → Option (List plain.Record)
 records_in n (model.Records rs) = if nat_eq n 0 then Some rs else None
-records_in n (model.Notified ts) = option_map (λ (t : plain.Told). t.records) (slice_get ts n)
+records_in n (model.Notified ts) = option_map (λ (t : plain.Notification). t.records) (slice_get ts n)
 records_in n _ = None
 
 abbrev pub record_in : ℕ → ℕ → model.Answer → Option plain.Record
@@ -32,8 +32,8 @@ type_number Attributes = 0
 type_number CharacterData = 1
 type_number ChildList = 2
 
-abbrev pub record_told : plain.Record → Record
-record_told r = record {
+abbrev pub record_out : plain.Record → Record
+record_out r = record {
   type_ = type_number r.type;
   target = r.target;
   added = length r.added;
@@ -43,11 +43,11 @@ record_told r = record {
 }
 
 abbrev pub record_at : ℕ → ℕ → model.Answer → Option Record
-record_at n i a = option_map record_told (record_in n i a)
+record_at n i a = option_map record_out (record_in n i a)
 
 -- all records of a notice, as they are told
-abbrev pub records_at : ℕ → model.Answer → Option (List Record)
-records_at n a = option_map (map record_told) (records_in n a)
+abbrev pub records_read_at : ℕ → model.Answer → Option (List Record)
+records_read_at n a = option_map (map record_out) (records_in n a)
 
 abbrev pub added_at : ℕ → ℕ → ℕ → model.Answer → Option ℕ
 added_at n i at a = option_and_then (λ (r : plain.Record). slice_get r.added at) (record_in n i a)

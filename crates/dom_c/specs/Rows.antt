@@ -44,11 +44,11 @@ abbrev pub row_in : ℕ → Answer → Option TreeRow
 row_in i (Rows rs) = slice_get rs i
 row_in i _ = None
 
-abbrev pub row_told : TreeRow → Row
-row_told r = record { depth = r.depth; node = r.number; type_ = number_of_kind r.label.kind; attributes = length r.body.attributes }
+abbrev pub row_out : TreeRow → Row
+row_out r = record { depth = r.depth; node = r.number; type_ = number_of_kind r.label.kind; attributes = length r.body.attributes }
 
 abbrev pub row_at : ℕ → Answer → Option Row
-row_at i a = option_map row_told (row_in i a)
+row_at i a = option_map row_out (row_in i a)
 
 abbrev pub row_name_at : ℕ → ℕ → Answer → Option (List ℕ)
 row_name_at i part a = option_and_then (λ (r : TreeRow). name_part part r.label) (row_in i a)
@@ -60,14 +60,14 @@ row_text_of r = if is_character_data r.label.kind then Some r.body.text else Non
 abbrev pub row_text_at : ℕ → Answer → Option (List ℕ)
 row_text_at i a = option_and_then row_text_of (row_in i a)
 
-abbrev pub attribute_in : ℕ → TreeRow → Option Attribute
-attribute_in at r = slice_get r.body.attributes at
+abbrev pub attribute_of_row : ℕ → TreeRow → Option Attribute
+attribute_of_row at r = slice_get r.body.attributes at
 
 abbrev pub attribute_name_in : ℕ → TreeRow → Option (List ℕ)
-attribute_name_in at r = option_map (λ (a : Attribute). a.name) (attribute_in at r)
+attribute_name_in at r = option_map (λ (a : Attribute). a.name) (attribute_of_row at r)
 
 abbrev pub attribute_value_in : ℕ → TreeRow → Option (List ℕ)
-attribute_value_in at r = option_map (λ (a : Attribute). a.value) (attribute_in at r)
+attribute_value_in at r = option_map (λ (a : Attribute). a.value) (attribute_of_row at r)
 
 abbrev pub row_attribute_name_at : ℕ → ℕ → Answer → Option (List ℕ)
 row_attribute_name_at i at a = option_and_then (attribute_name_in at) (row_in i a)

@@ -36,8 +36,8 @@ status_of (Own e) = status_of_own e
 abbrev pub out_of_memory : ℕ
 out_of_memory = 48
 
-abbrev pub closed : ℕ
-closed = 49
+abbrev pub closed_status : ℕ
+closed_status = 49
 
 abbrev pub already_open : ℕ
 already_open = 50

@@ -5,10 +5,10 @@ use Rattle.dom_model.specs.Forests.Kinds.{number_of_kind}
 use Rattle.dom_model.specs.Forests.Forest.{Forest}
 use Rattle.dom_model.specs.Worlds.World.{Content}
 use Rattle.dom_session.specs.declared.subtree.SubtreeNode.{SubtreeNode}
-use Rattle.dom_session.specs.Links.{laid_over}
-use Rattle.dom_session.specs.Lending.{lent_as}
+use Rattle.dom_session.specs.Neighbours.{laid_over}
+use Rattle.dom_session.specs.BorrowedData.{lent_as}
 use Rattle.dom_session.specs.Subtree.{part_of, subtree_in}
-use Rattle.dom_c.specs.Told.{number_or_null}
+use Rattle.dom_c.specs.WrittenValues.{number_or_null}
 use Rattle.dom_c.specs.declared.subtree.SubtreeRow.{SubtreeRow}
 
 abbrev pub row_told : SubtreeNode → SubtreeRow

@@ -4,12 +4,12 @@ ghost use Rattle.std.specs.Prelude.{◌≡◌, Ok};
 ghost use Rattle.dom_model.specs.Commands.Command.{SetAttribute, GetAttribute, HasAttribute, RemoveAttribute, ToggleAttribute, AttributeNames};
 ghost use Rattle.dom_wire.specs.Sessions.{command_view};
 ghost use Rattle.dom_c.specs.Answers.{Answers, Asks};
-ghost use Rattle.dom_c.specs.Reads.{Reads, choice_in, name_in, then_make};
-ghost use Rattle.dom_c.specs.Told.{told, as_answered, flag_told};
+ghost use Rattle.dom_c.specs.Arguments.{ReadsArgument, choice_in, utf8_name, then_make};
+ghost use Rattle.dom_c.specs.WrittenValues.{answer_of_call, as_answered, flag_out};
 
-use crate::fault::Fault;
+use crate::argument_fault::ArgumentFault;
 use crate::handle::Handle;
-use crate::reading::{choice_of, name_of, units_of};
+use crate::arguments::{choice_of, name_of, units_of};
 use dom_session::{Attributes, NodeId};
 use dom_wire::Command;
 use std::alloc::Global;
@@ -20,9 +20,9 @@ fn read_set_attribute(
     element: u32,
     name: &[u8],
     value: &[u16],
-) -> Result<Command, Fault>
-    ensures { Reads command_view result
-        (then_make (name_in name.now) (λ name. Ok (SetAttribute element name value.now))) }
+) -> Result<Command, ArgumentFault>
+    ensures { ReadsArgument command_view result
+        (then_make (utf8_name name.now) (λ name. Ok (SetAttribute element name value.now))) }
 {
     let name = name_of(alloc, name)?;
     let value = units_of(alloc, value)?;
@@ -39,15 +39,15 @@ pub extern "C" fn hp_set_attribute(
     value: &[u16],
 ) -> u8
     ensures { Answers handle.old handle.new
-        (then_make (name_in name.now) (λ name. Ok (SetAttribute element name value.now))) result }
+        (then_make (utf8_name name.now) (λ name. Ok (SetAttribute element name value.now))) result }
 {
     handle.take(read_set_attribute(alloc, element, name, value))
 }
 
 // Reads the arguments of `hp_get_attribute`.
-fn read_get_attribute(alloc: Global, element: u32, name: &[u8]) -> Result<Command, Fault>
-    ensures { Reads command_view result
-        (then_make (name_in name.now) (λ name. Ok (GetAttribute element name))) }
+fn read_get_attribute(alloc: Global, element: u32, name: &[u8]) -> Result<Command, ArgumentFault>
+    ensures { ReadsArgument command_view result
+        (then_make (utf8_name name.now) (λ name. Ok (GetAttribute element name))) }
 {
     let name = name_of(alloc, name)?;
     Ok(Command::Attributes(Attributes::GetAttribute(NodeId::new(element), name)))
@@ -62,7 +62,7 @@ pub extern "C" fn hp_get_attribute(
     name: &[u8],
 ) -> u8
     ensures { Answers handle.old handle.new
-        (then_make (name_in name.now) (λ name. Ok (GetAttribute element name))) result }
+        (then_make (utf8_name name.now) (λ name. Ok (GetAttribute element name))) result }
 {
     handle.take(read_get_attribute(alloc, element, name))
 }
@@ -76,16 +76,16 @@ pub extern "C" fn hp_has_attribute(
     is_there: &mut u8,
 ) -> u8
     ensures answers { Asks handle.old handle.new
-        (then_make (name_in name.now) (λ name. Ok (HasAttribute element name))) result }
-    ensures told { is_there.new ≡ flag_told (told handle.new (as_answered result)) is_there.old }
+        (then_make (utf8_name name.now) (λ name. Ok (HasAttribute element name))) result }
+    ensures told { is_there.new ≡ flag_out (answer_of_call handle.new (as_answered result)) is_there.old }
 {
     handle.has_attribute(NodeId::new(element), name, is_there)
 }
 
 // Reads the arguments of `hp_remove_attribute`.
-fn read_remove_attribute(alloc: Global, element: u32, name: &[u8]) -> Result<Command, Fault>
-    ensures { Reads command_view result
-        (then_make (name_in name.now) (λ name. Ok (RemoveAttribute element name))) }
+fn read_remove_attribute(alloc: Global, element: u32, name: &[u8]) -> Result<Command, ArgumentFault>
+    ensures { ReadsArgument command_view result
+        (then_make (utf8_name name.now) (λ name. Ok (RemoveAttribute element name))) }
 {
     let name = name_of(alloc, name)?;
     Ok(Command::Attributes(Attributes::RemoveAttribute(NodeId::new(element), name)))
@@ -100,7 +100,7 @@ pub extern "C" fn hp_remove_attribute(
     name: &[u8],
 ) -> u8
     ensures { Answers handle.old handle.new
-        (then_make (name_in name.now) (λ name. Ok (RemoveAttribute element name))) result }
+        (then_make (utf8_name name.now) (λ name. Ok (RemoveAttribute element name))) result }
 {
     handle.take(read_remove_attribute(alloc, element, name))
 }
@@ -111,9 +111,9 @@ fn read_toggle_attribute(
     element: u32,
     name: &[u8],
     force: u8,
-) -> Result<Command, Fault>
-    ensures { Reads command_view result
-        (then_make (name_in name.now) (λ name. then_make (choice_in force) (λ force.
+) -> Result<Command, ArgumentFault>
+    ensures { ReadsArgument command_view result
+        (then_make (utf8_name name.now) (λ name. then_make (choice_in force) (λ force.
         Ok (ToggleAttribute element name force)))) }
 {
     let name = name_of(alloc, name)?;
@@ -132,9 +132,9 @@ pub extern "C" fn hp_toggle_attribute(
     is_there: &mut u8,
 ) -> u8
     ensures answers { Answers handle.old handle.new
-        (then_make (name_in name.now) (λ name. then_make (choice_in force) (λ force.
+        (then_make (utf8_name name.now) (λ name. then_make (choice_in force) (λ force.
         Ok (ToggleAttribute element name force)))) result }
-    ensures told { is_there.new ≡ flag_told (told handle.new result) is_there.old }
+    ensures told { is_there.new ≡ flag_out (answer_of_call handle.new result) is_there.old }
 {
     handle.take_flag(read_toggle_attribute(alloc, element, name, force), is_there)
 }

@@ -1,22 +1,22 @@
 //! The filters of iterators and walkers, as C passes them.
 
 ghost use Rattle.std.specs.Prelude.{◌≡◌};
-ghost use Rattle.dom_c.specs.Reads.{Reads};
-ghost use Rattle.dom_c.specs.Lists.{verdict_in, rules_in};
+ghost use Rattle.dom_c.specs.Arguments.{ReadsArgument};
+ghost use Rattle.dom_c.specs.NameLists.{verdict_in, rules_in};
 
-use crate::fault::Fault;
-use crate::reading::name_of;
+use crate::argument_fault::ArgumentFault;
+use crate::arguments::name_of;
 use dom_session::{Rule, Verdict};
 use std::alloc::Global;
 
-fn verdict_of(number: u8) -> Result<Verdict, Fault>
-    ensures { Reads (λ verdict. verdict) result (verdict_in number) }
+fn verdict_of(number: u8) -> Result<Verdict, ArgumentFault>
+    ensures { ReadsArgument (λ verdict. verdict) result (verdict_in number) }
 {
     match number {
         1 => Ok(Verdict::Accept),
         2 => Ok(Verdict::Reject),
         3 => Ok(Verdict::Skip),
-        _ => Err(Fault::BadChoice),
+        _ => Err(ArgumentFault::BadChoice),
     }
 }
 
@@ -26,8 +26,8 @@ pub(crate) fn rules_of(
     names: &[u8],
     lengths: &[u32],
     verdicts: &[u8],
-) -> Result<Vec<Rule>, Fault>
-    ensures { Reads (λ rules. rules.items) result
+) -> Result<Vec<Rule>, ArgumentFault>
+    ensures { ReadsArgument (λ rules. rules.items) result
         (rules_in names.now lengths.now verdicts.now) }
 {
     let mut rules: Vec<Rule> = Vec::new(alloc);
@@ -35,21 +35,21 @@ pub(crate) fn rules_of(
     let mut others = verdicts;
     for length in lengths {
         let [verdict, left @ ..] = others else {
-            return Err(Fault::BadLengths);
+            return Err(ArgumentFault::BadLengths);
         };
         let Some((front, back)) = bytes.split_at_checked(*length as usize) else {
-            return Err(Fault::BadLengths);
+            return Err(ArgumentFault::BadLengths);
         };
         let name = name_of(alloc, front)?;
         let verdict = verdict_of(*verdict)?;
         if rules.push(Rule { name, verdict }).is_err() {
-            return Err(Fault::Memory);
+            return Err(ArgumentFault::Memory);
         }
         bytes = back;
         others = left;
     }
     match (others, bytes) {
         ([], []) => Ok(rules),
-        _ => Err(Fault::BadLengths),
+        _ => Err(ArgumentFault::BadLengths),
     }
 }

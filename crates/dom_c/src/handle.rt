@@ -2,12 +2,12 @@
 
 ghost use Rattle.std.specs.Prelude.{◌≡◌, is_some};
 
-use crate::slot::Slot;
+use crate::session_slot::SessionSlot;
 
 /// A session, or none. All zero bytes are a closed handle.
 #[repr(C)]
 pub struct Handle {
-    pub slot: Slot,
+    pub slot: SessionSlot,
     pub is_open: bool,
     // a handle is open if its slot is full
     ghost tied: { is_open ≡ is_some slot.kept },

@@ -2,13 +2,13 @@
 
 ghost use Rattle.std.specs.Prelude.{◌≡◌, List, ℕ, Option, option_map, option_and_then};
 ghost use Rattle.dom_wire.specs.Sessions.{answer_view};
-ghost use Rattle.dom_c.specs.Told.{last_of};
-ghost use Rattle.dom_c.specs.Reading.{look_up_status, looked_up, or_before};
+ghost use Rattle.dom_c.specs.WrittenValues.{last_answer_of};
+ghost use Rattle.dom_c.specs.ReplyItems.{look_up_status, looked_up, or_before};
 ghost use Rattle.dom_c.specs.Rows.{own_name, doctype_id, name_part, node_name_part};
 
 use crate::handle::Handle;
-use crate::kept::Kept;
-use crate::lending::Bytes;
+use crate::handle_state::HandleState;
+use crate::borrowed_text::Bytes;
 use crate::status::{HP_CLOSED, HP_NOT_THERE, HP_OK, HP_OUT_OF_MEMORY};
 use dom_session::{Answer, Kind, Label};
 use dom_wire::Reply;
@@ -54,10 +54,10 @@ fn node_name_of(answer: &Answer, part: u8) -> Option<&[u8]>
     }
 }
 
-impl Kept {
+impl HandleState {
     fn node_name(&self, part: u8) -> Option<&[u8]>
         ensures { option_map (λ name. name.now) result
-            ≡ option_and_then (node_name_part part) (last_of self.now) }
+            ≡ option_and_then (node_name_part part) (last_answer_of self.now) }
     {
         match &self.reply {
             Some(Reply::Done(answer)) => node_name_of(answer, part),

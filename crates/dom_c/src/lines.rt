@@ -5,11 +5,11 @@ ghost use Rattle.dom_model.specs.Commands.Reply.{is_refusal};
 ghost use Rattle.dom_model.specs.Commands.Table.{whole_table};
 ghost use Rattle.dom_model.specs.Commands.Line.{command_within};
 ghost use Rattle.dom_wire.specs.Sessions.{IsAsBefore, reply_view};
-ghost use Rattle.dom_wire.specs.Reads.{Reads};
+ghost use Rattle.dom_wire.specs.Reads.{ReadsCommand};
 ghost use Rattle.dom_c.specs.Lines.{AnswersLine, TakesLine, IsPrinted, IsReply, PrintsLast, PrintsLastIn, step_in};
 
 use crate::handle::Handle;
-use crate::kept::Kept;
+use crate::handle_state::HandleState;
 use crate::status::{HP_CLOSED, HP_NOT_THERE, HP_OK, HP_OUT_OF_MEMORY, status_of};
 use dom_wire::{
     Brief, Command, OutOfMemory, OwnError, ReadError, Reply, Session, read_line, write_reply,
@@ -19,7 +19,7 @@ use std::alloc::Global;
 // Returns the command of a line within a limit, or the refusal of its form.
 #[tactic(auto, unfolding(dom_model::specs::Commands::Line::command_within))]
 fn read_within(alloc: Global, limit: usize, line: &[u8]) -> Result<Command, ReadError>
-    ensures { Reads result (command_within whole_table limit line.now) }
+    ensures { ReadsCommand result (command_within whole_table limit line.now) }
 {
     if line.len() > limit {
         return Err(ReadError::Own(OwnError::LineTooLong));
@@ -48,7 +48,7 @@ fn reply_to(
     }
 }
 
-impl Kept {
+impl HandleState {
     // Answers a line, and stores its reply and the reply's line. A session whose reply cannot be printed ends.
     fn answer_line(&mut self, line: &[u8]) -> u8
         ensures steps { TakesLine line.now self.old self.new result }

@@ -2,12 +2,12 @@
 
 ghost use Rattle.std.specs.Prelude.{◌≡◌, ℕ, Option, option_and_then};
 ghost use Rattle.dom_wire.specs.Sessions.{answer_view};
-ghost use Rattle.dom_c.specs.Told.{last_of};
-ghost use Rattle.dom_c.specs.Reading.{look_up_status, looked_up, or_before};
+ghost use Rattle.dom_c.specs.WrittenValues.{last_answer_of};
+ghost use Rattle.dom_c.specs.ReplyItems.{look_up_status, looked_up, or_before};
 ghost use Rattle.dom_c.specs.Records.{notice_at};
 
 use crate::handle::Handle;
-use crate::kept::Kept;
+use crate::handle_state::HandleState;
 use crate::status::{HP_CLOSED, HP_NOT_THERE, HP_OK, HP_OUT_OF_MEMORY};
 use dom_session::Answer;
 use dom_wire::Reply;
@@ -35,9 +35,9 @@ fn notice_of(answer: &Answer, notice: usize) -> Option<Notice>
     }
 }
 
-impl Kept {
+impl HandleState {
     fn notice_at(&self, index: usize) -> Option<Notice>
-        ensures { result ≡ option_and_then (notice_at index) (last_of self.now) }
+        ensures { result ≡ option_and_then (notice_at index) (last_answer_of self.now) }
     {
         match &self.reply {
             Some(Reply::Done(answer)) => notice_of(answer, index),

@@ -1,11 +1,11 @@
 //! The options of a mutation observer, as C passes them.
 
 ghost use Rattle.std.specs.Prelude.{◌≡◌, [], map, option_map, string_bytes};
-ghost use Rattle.dom_c.specs.Reads.{Reads};
-ghost use Rattle.dom_c.specs.Lists.{names_from, filter_in, options_in};
+ghost use Rattle.dom_c.specs.Arguments.{ReadsArgument};
+ghost use Rattle.dom_c.specs.NameLists.{names_from, filter_in, given_options};
 
-use crate::fault::Fault;
-use crate::reading::{choice_of, name_of};
+use crate::argument_fault::ArgumentFault;
+use crate::arguments::{choice_of, name_of};
 use dom_session::RawOptions;
 use std::alloc::Global;
 
@@ -24,26 +24,26 @@ pub struct Options {
 }
 
 // Reads names that are stored one after the other, by the length of each.
-fn names_of(alloc: Global, names: &[u8], lengths: &[u32]) -> Result<Vec<String>, Fault>
-    ensures { Reads (λ given. map string_bytes given.items) result
+fn names_of(alloc: Global, names: &[u8], lengths: &[u32]) -> Result<Vec<String>, ArgumentFault>
+    ensures { ReadsArgument (λ given. map string_bytes given.items) result
         (names_from [] lengths.now names.now) }
 {
     let mut given: Vec<String> = Vec::new(alloc);
     let mut bytes = names;
     for length in lengths {
         let Some((front, back)) = bytes.split_at_checked(*length as usize) else {
-            return Err(Fault::BadLengths);
+            return Err(ArgumentFault::BadLengths);
         };
         let name = name_of(alloc, front)?;
         if given.push(name).is_err() {
-            return Err(Fault::Memory);
+            return Err(ArgumentFault::Memory);
         }
         bytes = back;
     }
     if bytes.is_empty() {
         return Ok(given);
     }
-    Err(Fault::BadLengths)
+    Err(ArgumentFault::BadLengths)
 }
 
 fn filter_of(
@@ -51,8 +51,8 @@ fn filter_of(
     has: u8,
     names: &[u8],
     lengths: &[u32],
-) -> Result<Option<Vec<String>>, Fault>
-    ensures { Reads (λ filter. option_map (λ given. map string_bytes given.items) filter) result
+) -> Result<Option<Vec<String>>, ArgumentFault>
+    ensures { ReadsArgument (λ filter. option_map (λ given. map string_bytes given.items) filter) result
         (filter_in has names.now lengths.now) }
 {
     match has {
@@ -61,7 +61,7 @@ fn filter_of(
             Ok(given) => Ok(Some(given)),
             Err(fault) => Err(fault),
         },
-        _ => Err(Fault::BadChoice),
+        _ => Err(ArgumentFault::BadChoice),
     }
 }
 
@@ -71,8 +71,8 @@ pub(crate) fn options_of(
     options: &Options,
     names: &[u8],
     lengths: &[u32],
-) -> Result<RawOptions, Fault>
-    ensures { Reads (λ read. read) result (options_in options.now names.now lengths.now) }
+) -> Result<RawOptions, ArgumentFault>
+    ensures { ReadsArgument (λ read. read) result (given_options options.now names.now lengths.now) }
 {
     Ok(RawOptions {
         child_list: choice_of(options.child_list)?,

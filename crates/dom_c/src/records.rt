@@ -3,15 +3,15 @@
 ghost use Rattle.std.specs.Prelude.{◌≡◌, List, ℕ, Option, length, map, slice_get, option_map, option_and_then};
 ghost use Rattle.dom_model.specs.MutationObservers.Record.{Record as PlainRecord};
 ghost use Rattle.dom_wire.specs.Sessions.{answer_view};
-ghost use Rattle.dom_c.specs.Told.{last_of};
-ghost use Rattle.dom_session.specs.Links.{laid_over};
-ghost use Rattle.dom_c.specs.Reading.{look_up_status, looked_up, or_before, laid_or_before};
-ghost use Rattle.dom_c.specs.Records.{records_in, record_in, type_number, record_told, record_at, records_at, added_at, removed_at, record_name_at, old_value_at};
+ghost use Rattle.dom_c.specs.WrittenValues.{last_answer_of};
+ghost use Rattle.dom_session.specs.Neighbours.{laid_over};
+ghost use Rattle.dom_c.specs.ReplyItems.{look_up_status, looked_up, or_before, laid_or_before};
+ghost use Rattle.dom_c.specs.Records.{records_in, record_in, type_number, record_out, record_at, records_read_at, added_at, removed_at, record_name_at, old_value_at};
 
 use crate::handle::Handle;
-use crate::kept::Kept;
-use crate::lending::{Bytes, Text};
-use crate::placing::node_number;
+use crate::handle_state::HandleState;
+use crate::borrowed_text::{Bytes, Text};
+use crate::write_positions::node_number;
 use crate::status::{HP_CLOSED, HP_NOT_THERE, HP_OK, HP_OUT_OF_MEMORY};
 use dom_session::{Answer, NodeId, Record as MutationRecord, RecordType};
 use dom_wire::Reply;
@@ -74,7 +74,7 @@ fn record_in(answer: &Answer, notice: usize, index: usize) -> Option<&MutationRe
 
 // Returns a record as C reads it.
 fn record_told(found: &MutationRecord) -> Record
-    ensures { result ≡ record_told found.now }
+    ensures { result ≡ record_out found.now }
 {
     Record {
         type_: type_number(found.what),
@@ -88,7 +88,7 @@ fn record_told(found: &MutationRecord) -> Record
 
 // Copies records, as C reads them, over the front of an array, as many as there is room for.
 fn lay_over(records: &[MutationRecord], into: &mut [Record])
-    ensures { into.new ≡ laid_over (map record_told records.now) into.old }
+    ensures { into.new ≡ laid_over (map record_out records.now) into.old }
 {
     let mut at = 0;
     for found in records {
@@ -127,10 +127,10 @@ fn old_value_of(found: &MutationRecord) -> Option<&[u16]>
     }
 }
 
-impl Kept {
+impl HandleState {
     fn records(&self, notice: usize) -> Option<&[MutationRecord]>
         ensures { option_map (λ records. records.now) result
-            ≡ option_and_then (records_in notice) (last_of self.now) }
+            ≡ option_and_then (records_in notice) (last_answer_of self.now) }
     {
         match &self.reply {
             Some(Reply::Done(answer)) => records_in(answer, notice),
@@ -140,7 +140,7 @@ impl Kept {
 
     fn record(&self, notice: usize, index: usize) -> Option<&MutationRecord>
         ensures { option_map (λ found. found.now) result
-            ≡ option_and_then (record_in notice index) (last_of self.now) }
+            ≡ option_and_then (record_in notice index) (last_answer_of self.now) }
     {
         match &self.reply {
             Some(Reply::Done(answer)) => record_in(answer, notice, index),
@@ -149,7 +149,7 @@ impl Kept {
     }
 
     fn record_at(&self, notice: usize, index: usize) -> Option<Record>
-        ensures { result ≡ option_and_then (record_at notice index) (last_of self.now) }
+        ensures { result ≡ option_and_then (record_at notice index) (last_answer_of self.now) }
     {
         match self.record(notice, index) {
             Some(found) => Some(record_told(found)),
@@ -158,7 +158,7 @@ impl Kept {
     }
 
     fn added_at(&self, notice: usize, index: usize, at: usize) -> Option<u32>
-        ensures { result ≡ option_and_then (added_at notice index at) (last_of self.now) }
+        ensures { result ≡ option_and_then (added_at notice index at) (last_answer_of self.now) }
     {
         match self.record(notice, index) {
             Some(found) => number_in(found.added.as_slice(), at),
@@ -167,7 +167,7 @@ impl Kept {
     }
 
     fn removed_at(&self, notice: usize, index: usize, at: usize) -> Option<u32>
-        ensures { result ≡ option_and_then (removed_at notice index at) (last_of self.now) }
+        ensures { result ≡ option_and_then (removed_at notice index at) (last_answer_of self.now) }
     {
         match self.record(notice, index) {
             Some(found) => number_in(found.removed.as_slice(), at),
@@ -177,7 +177,7 @@ impl Kept {
 
     fn record_name_at(&self, notice: usize, index: usize) -> Option<&[u8]>
         ensures { option_map (λ name. name.now) result
-            ≡ option_and_then (record_name_at notice index) (last_of self.now) }
+            ≡ option_and_then (record_name_at notice index) (last_answer_of self.now) }
     {
         match self.record(notice, index) {
             Some(found) => name_of(found),
@@ -187,7 +187,7 @@ impl Kept {
 
     fn old_value_at(&self, notice: usize, index: usize) -> Option<&[u16]>
         ensures { option_map (λ text. text.now) result
-            ≡ option_and_then (old_value_at notice index) (last_of self.now) }
+            ≡ option_and_then (old_value_at notice index) (last_answer_of self.now) }
     {
         match self.record(notice, index) {
             Some(found) => old_value_of(found),
@@ -235,10 +235,10 @@ pub extern "C" fn hp_records_into(
     count: &mut usize,
 ) -> u8
     ensures kept { handle.new.slot.kept ≡ handle.old.slot.kept }
-    ensures status { result ≡ look_up_status handle.old (records_at notice) }
+    ensures status { result ≡ look_up_status handle.old (records_read_at notice) }
     ensures count { count.new ≡ or_before (option_map length
-        (looked_up handle.old (records_at notice))) count.old }
-    ensures copied { records.new ≡ laid_or_before (looked_up handle.old (records_at notice))
+        (looked_up handle.old (records_read_at notice))) count.old }
+    ensures copied { records.new ≡ laid_or_before (looked_up handle.old (records_read_at notice))
         records.old }
 {
     if !handle.is_open {

@@ -3,14 +3,14 @@
 ghost use Rattle.std.specs.Prelude.{◌≡◌, List, ℕ, Option, option_map, option_and_then};
 ghost use Rattle.dom_model.specs.Commands.Reply.{TreeRow as PlainRow};
 ghost use Rattle.dom_wire.specs.Sessions.{answer_view};
-ghost use Rattle.dom_c.specs.Told.{last_of};
-ghost use Rattle.dom_c.specs.Reading.{look_up_status, looked_up, or_before};
-ghost use Rattle.dom_c.specs.Rows.{row_in, row_told, row_at, row_name_at, row_text_of, row_text_at, attribute_name_in, attribute_value_in, row_attribute_name_at, row_attribute_value_at};
+ghost use Rattle.dom_c.specs.WrittenValues.{last_answer_of};
+ghost use Rattle.dom_c.specs.ReplyItems.{look_up_status, looked_up, or_before};
+ghost use Rattle.dom_c.specs.Rows.{row_in, row_out, row_at, row_name_at, row_text_of, row_text_at, attribute_name_in, attribute_value_in, row_attribute_name_at, row_attribute_value_at};
 
 use crate::handle::Handle;
-use crate::kept::Kept;
+use crate::handle_state::HandleState;
 use crate::labels::name_part;
-use crate::lending::{Bytes, Text};
+use crate::borrowed_text::{Bytes, Text};
 use crate::status::{HP_CLOSED, HP_NOT_THERE, HP_OK, HP_OUT_OF_MEMORY};
 use dom_kinds::NodeType;
 use dom_session::{Answer, Kind, TreeRow};
@@ -38,7 +38,7 @@ fn row_in(answer: &Answer, index: usize) -> Option<&TreeRow>
 
 // Returns a row as C reads it.
 fn row_told(row: &TreeRow) -> Row
-    ensures { result ≡ row_told row.now }
+    ensures { result ≡ row_out row.now }
 {
     Row {
         depth: row.depth,
@@ -76,10 +76,10 @@ fn attribute_value_in(row: &TreeRow, at: usize) -> Option<&[u16]>
     }
 }
 
-impl Kept {
+impl HandleState {
     fn row(&self, index: usize) -> Option<&TreeRow>
         ensures { option_map (λ row. row.now) result
-            ≡ option_and_then (row_in index) (last_of self.now) }
+            ≡ option_and_then (row_in index) (last_answer_of self.now) }
     {
         match &self.reply {
             Some(Reply::Done(answer)) => row_in(answer, index),
@@ -88,7 +88,7 @@ impl Kept {
     }
 
     fn row_at(&self, index: usize) -> Option<Row>
-        ensures { result ≡ option_and_then (row_at index) (last_of self.now) }
+        ensures { result ≡ option_and_then (row_at index) (last_answer_of self.now) }
     {
         match self.row(index) {
             Some(row) => Some(row_told(row)),
@@ -98,7 +98,7 @@ impl Kept {
 
     fn row_name_at(&self, index: usize, part: u8) -> Option<&[u8]>
         ensures { option_map (λ name. name.now) result
-            ≡ option_and_then (row_name_at index part) (last_of self.now) }
+            ≡ option_and_then (row_name_at index part) (last_answer_of self.now) }
     {
         match self.row(index) {
             Some(row) => name_part(&row.label, part),
@@ -108,7 +108,7 @@ impl Kept {
 
     fn row_text_at(&self, index: usize) -> Option<&[u16]>
         ensures { option_map (λ text. text.now) result
-            ≡ option_and_then (row_text_at index) (last_of self.now) }
+            ≡ option_and_then (row_text_at index) (last_answer_of self.now) }
     {
         match self.row(index) {
             Some(row) => row_text_of(row),
@@ -118,7 +118,7 @@ impl Kept {
 
     fn row_attribute_name_at(&self, index: usize, at: usize) -> Option<&[u8]>
         ensures { option_map (λ name. name.now) result
-            ≡ option_and_then (row_attribute_name_at index at) (last_of self.now) }
+            ≡ option_and_then (row_attribute_name_at index at) (last_answer_of self.now) }
     {
         match self.row(index) {
             Some(row) => attribute_name_in(row, at),
@@ -128,7 +128,7 @@ impl Kept {
 
     fn row_attribute_value_at(&self, index: usize, at: usize) -> Option<&[u16]>
         ensures { option_map (λ value. value.now) result
-            ≡ option_and_then (row_attribute_value_at index at) (last_of self.now) }
+            ≡ option_and_then (row_attribute_value_at index at) (last_answer_of self.now) }
     {
         match self.row(index) {
             Some(row) => attribute_value_in(row, at),

@@ -4,7 +4,7 @@ ghost use Rattle.std.specs.Prelude.{◌≡◌};
 ghost use Rattle.dom_session.specs.Brief.{reply_of};
 ghost use Rattle.dom_wire.specs.Sessions.{reply_view};
 ghost use Rattle.dom_c.specs.Statuses.{status_of, status_of_dom, status_of_own, status_at_end};
-ghost use Rattle.dom_c.specs.Told.{as_answered};
+ghost use Rattle.dom_c.specs.WrittenValues.{as_answered};
 
 use dom_session::{Brief, DomError};
 use dom_wire::{OwnError, Reply};

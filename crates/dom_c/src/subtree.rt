@@ -2,11 +2,11 @@
 //! answers, from the world it holds, with `HP_ENDED`.
 
 ghost use Rattle.std.specs.Prelude.{◌≡◌, length};
-ghost use Rattle.dom_c.specs.Holding.{LendsForest};
+ghost use Rattle.dom_c.specs.BorrowedData.{LendsForest};
 ghost use Rattle.dom_c.specs.Subtree.{rows_told, count_told, next_told};
 
 use crate::handle::Handle;
-use crate::placing::{kind_number, node_number};
+use crate::write_positions::{kind_number, node_number};
 use crate::status::{HP_CLOSED, HP_NOT_THERE, status_of_own};
 use dom_session::{NodeId, NodeRow, SubtreeNode};
 

@@ -1,7 +1,7 @@
-pub mod Beside
-pub mod Covers
-pub mod Items
-pub mod Spelled
-pub mod Steps
-pub mod Told
-pub mod Walking
+pub mod AfterBeforeLemmas
+pub mod AllItemsLemmas
+pub mod ChainWalkLemmas
+pub mod CoversLemmas
+pub mod HasKeyLemmas
+pub mod RechainsLemmas
+pub mod TableStepLemmas

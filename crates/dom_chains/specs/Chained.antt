@@ -98,13 +98,13 @@ abbrev pub moved : ℕ → Option ℕ → ℕ → (ℕ → List ℕ) → ℕ →
 moved e from key chain = if is_number from key then chain else chained_first e key (unchained e chain)
 
 -- the item in a seat, with its key
-abbrev pub item_in : {T : Type 0} → Seat T → ℕ × T
-item_in s = (s.key, s.item)
+abbrev pub seat_item : {T : Type 0} → Seat T → ℕ × T
+seat_item s = (s.key, s.item)
 
 module _ {T H : Type 0} where
   -- the items in their seats
   abbrev pub items_of : Table T H → List (ℕ × T)
-  items_of t = map item_in t.seats.items
+  items_of t = map seat_item t.seats.items
 
   abbrev pub keys_in : Table T H → ℕ → Option ℕ
   keys_in t = key_at (items_of t)

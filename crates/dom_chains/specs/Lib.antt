@@ -1,3 +1,3 @@
 pub mod Chained
-pub mod Kept
 pub mod Keyed
+pub mod LinkCodes

@@ -7,7 +7,7 @@ ghost use Rattle.dom_chains.specs.Keyed.{covers, covered_to, key_at, keys_of, on
 
 use crate::change::Change;
 use crate::heads::{Heads, HeadsInList, HeadsInPages};
-use crate::link::Link;
+use crate::item_link::ItemLink;
 use crate::table::{Seat, Table};
 use std::alloc::{AllocError, Global};
 use std::marker::Model;
@@ -188,8 +188,8 @@ impl<T: Copy, H: Heads> Chains<T, H> {
         self.table.seats.push_reserved(Seat {
             key,
             item,
-            prev: Link::none(),
-            next: Link::none(),
+            prev: ItemLink::none(),
+            next: ItemLink::none(),
         });
         self.table.link(id, key, item);
     }

@@ -3,7 +3,7 @@
 ghost use Rattle.std.specs.Prelude.{◌≡◌, ℕ, ◌-◌, ◌≤◌, ◌++◌, [], List, Option, Some, None, IsSome, IfOk, OnOk, OnErr, length, map, replicate, slice_set};
 ghost use Rattle.dom_pages.specs.Numbered.{item_at};
 
-use crate::link::{HeadCell, Link};
+use crate::item_link::{HeadCell, ItemLink};
 use dom_pages::Pages;
 use std::alloc::{AllocError, Global};
 
@@ -13,11 +13,11 @@ pub trait Heads {
     ghost by_key: { Self → List (Option (Option ℕ)) };
 
     /// Returns the first item of a key's chain; none if the key is not covered.
-    fn first(&self, key: u32) -> Option<Link>
+    fn first(&self, key: u32) -> Option<ItemLink>
         ensures { result ≡ item_at (by_key self.now) key };
 
     /// Writes the first item of a covered key's chain. It takes no memory.
-    fn begin(&mut self, key: u32, first: Link)
+    fn begin(&mut self, key: u32, first: ItemLink)
         requires { IsSome (item_at (by_key self.old) key) }
         ensures { by_key self.new ≡ slice_set (by_key self.old) key (Some first) };
 }
@@ -25,17 +25,17 @@ pub trait Heads {
 /// Heads in pages: for keys that are added in order and forgotten. A page whose keys were all forgotten is freed.
 #[derive(Drop)]
 pub struct HeadsInPages {
-    heads: Pages<Link, HeadCell>,
+    heads: Pages<ItemLink, HeadCell>,
 }
 
 impl Heads for HeadsInPages {
     ghost by_key = { λ h. h.heads.items };
 
-    fn first(&self, key: u32) -> Option<Link> {
+    fn first(&self, key: u32) -> Option<ItemLink> {
         self.heads.get(key as usize)
     }
 
-    fn begin(&mut self, key: u32, first: Link) {
+    fn begin(&mut self, key: u32, first: ItemLink) {
         self.heads.set(key as usize, first);
     }
 }
@@ -63,7 +63,7 @@ impl HeadsInPages {
         }
         self.heads.reserve(need - have)?;
         for _key in have..need {
-            self.heads.push_reserved(Link::none());
+            self.heads.push_reserved(ItemLink::none());
         }
         Ok(())
     }
@@ -82,17 +82,17 @@ impl HeadsInPages {
 /// Heads in a list: for a fixed number of keys.
 #[derive(Drop)]
 pub struct HeadsInList {
-    heads: Vec<Link>,
+    heads: Vec<ItemLink>,
 }
 
 impl Heads for HeadsInList {
     ghost by_key = { λ h. map (λ first. Some first) h.heads.items };
 
-    fn first(&self, key: u32) -> Option<Link> {
+    fn first(&self, key: u32) -> Option<ItemLink> {
         self.heads.get(key as usize).copied()
     }
 
-    fn begin(&mut self, key: u32, first: Link) {
+    fn begin(&mut self, key: u32, first: ItemLink) {
         self.heads[key as usize] = first;
     }
 }
@@ -110,7 +110,7 @@ impl HeadsInList {
     pub(crate) fn of(alloc: Global, count: usize) -> Result<HeadsInList, AllocError>
         ensures { IfOk result (λ h. h.heads.items ≡ replicate count None) }
     {
-        let heads = vec![in alloc; Link::none(); count]?;
+        let heads = vec![in alloc; ItemLink::none(); count]?;
         Ok(HeadsInList { heads })
     }
 

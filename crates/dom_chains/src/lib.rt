@@ -7,11 +7,11 @@
 mod chains;
 mod change;
 mod heads;
-mod link;
+mod item_link;
 mod table;
 
 pub use chains::Chains;
 pub use change::Change;
 pub use heads::{Heads, HeadsInList, HeadsInPages};
 #[doc(hidden)]
-pub use link::Link;
+pub use item_link::ItemLink;

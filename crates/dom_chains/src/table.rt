@@ -5,15 +5,15 @@ ghost use Rattle.dom_chains.specs.Keyed.{covers};
 ghost use Rattle.dom_chains.specs.Chained.{head_at, link_at, HasChains, Rechains, ForLink, led_on, led_back, keys_without, unchained, chained_first, moved, items_of, keys_in, keyed, links_of, AreChained};
 
 use crate::heads::Heads;
-use crate::link::Link;
+use crate::item_link::ItemLink;
 
 /// An item with its key, and the items before and after it in the chain of its key.
 #[derive(Clone, Copy, Drop)]
 pub(crate) struct Seat<T> {
     pub(crate) key: u32,
     pub(crate) item: T,
-    pub(crate) prev: Link,
-    pub(crate) next: Link,
+    pub(crate) prev: ItemLink,
+    pub(crate) next: ItemLink,
 }
 
 /// The seats of all items, and the first item of each covered key's chain.
@@ -35,14 +35,14 @@ impl<T: Copy, H: Heads> Table<T, H> {
     }
 
     /// Returns the first item of a key's chain.
-    pub(crate) fn head(&self, key: u32) -> Link
+    pub(crate) fn head(&self, key: u32) -> ItemLink
         ensures { result ≡ head_at (H.by_key self.now.heads) key }
     {
-        self.heads.first(key).unwrap_or(Link::none())
+        self.heads.first(key).unwrap_or(ItemLink::none())
     }
 
     // Links `prev` forward to `next`; without a `prev`, `next` becomes the first item of the key's chain.
-    fn lead_on(&mut self, prev: Link, key: u32, next: Link)
+    fn lead_on(&mut self, prev: ItemLink, key: u32, next: ItemLink)
         requires covered { covers (keyed H.by_key self.old).covered key ≡ true }
         requires link { ForLink prev (length (links_of H.by_key self.old).nexts) }
         ensures same { keyed H.by_key self.new ≡ keyed H.by_key self.old }
@@ -59,7 +59,7 @@ impl<T: Copy, H: Heads> Table<T, H> {
     }
 
     // Links `next`, if any, back to `prev`.
-    fn lead_back(&mut self, next: Link, prev: Link)
+    fn lead_back(&mut self, next: ItemLink, prev: ItemLink)
         requires { ForLink next (length (links_of H.by_key self.old).prevs) }
         ensures same { keyed H.by_key self.new ≡ keyed H.by_key self.old }
         ensures links { links_of H.by_key self.new
@@ -96,14 +96,14 @@ impl<T: Copy, H: Heads> Table<T, H> {
             (chained_first id key) (links_of H.by_key self.old) (links_of H.by_key self.new) }
     {
         let next = self.head(key);
-        self.lead_back(next, Link::to(id));
+        self.lead_back(next, ItemLink::to(id));
         self.seats[id] = Seat {
             key,
             item,
-            prev: Link::none(),
+            prev: ItemLink::none(),
             next,
         };
-        self.heads.begin(key, Link::to(id));
+        self.heads.begin(key, ItemLink::to(id));
     }
 
     /// Writes an item with its key. An item that already has the key keeps its position in the chain; any other becomes the first.

@@ -1,6 +1,6 @@
-pub mod Grown
-pub mod Left
-pub mod Partial
-pub mod Positions
-pub mod Under
-pub mod Walks
+pub mod CompletedLemmas
+pub mod EqualWalkLemmas
+pub mod IsCopyingLemmas
+pub mod LeavesAllLemmas
+pub mod PositionLemmas
+pub mod PutUnderLemmas

@@ -1,3 +1,3 @@
-pub mod Growing
-pub mod Meeting
-pub mod Waits
+pub mod Clones
+pub mod EqualWalks
+pub mod WalkStack

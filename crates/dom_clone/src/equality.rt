@@ -5,7 +5,7 @@ ghost use Rattle.dom_model.specs.Forests.Attributes.{same_attributes};
 ghost use Rattle.dom_model.specs.Forests.Forest.{HasNode, entry_in};
 ghost use Rattle.dom_model.specs.Worlds.World.{value_of};
 ghost use Rattle.dom_model.specs.DataAndCopies.Clones.{is_equal};
-ghost use Rattle.dom_clone.specs.Meeting.{met, follows_inside, agree_in, are_alike};
+ghost use Rattle.dom_clone.specs.EqualWalks.{met, follows_inside, agree_in, are_alike};
 
 use dom_edit::Content;
 use dom_kinds::Kind;

@@ -1,12 +1,12 @@
 //! Copies of trees, their equality, and how two nodes stand to each other (DOM Standard, "Interface Node", "Interface Document").
 #![tactic(auto)]
 
-mod copying;
+mod clones;
 mod equality;
-mod standing;
-mod waiting;
+mod relative_position;
+mod walk_stack;
 
-pub use copying::{clone_node, import};
+pub use clones::{clone_node, import};
 pub use equality::is_equal;
-pub use standing::{contains, position};
-pub use waiting::{Waiting, wait_for};
+pub use relative_position::{contains, position};
+pub use walk_stack::{Waiting, wait_for};

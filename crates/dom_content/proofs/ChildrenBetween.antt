@@ -8,9 +8,9 @@ use Rattle.dom_model.proofs.PlainLists.Numbers.{same_or, same, apart}
 use Rattle.dom_model.proofs.Forests.{Changes.seen, Changes.nothing, Changes.just, Climbing.hits-first, Entries.occurs-HasNode, Entries.HasNode-occurs, Indices.child-listed, Indices.child-once, Indices.child-parent, Indices.index-child, Siblings.hits-get, Siblings.get-head, Siblings.next-child}
 use Rattle.dom_model.proofs.RangesAndContents.ContainedChildren.{up_to-place, up_to-through, ahead_in, through_in, top, forked, contained-between}
 use Rattle.dom_model.proofs.TokenText.EditsMade.EditsOfInsertions.{get-place}
-use Rattle.dom_edit.specs.Places.{IsAmong, from_optional, ahead_of}
-use Rattle.dom_edit.proofs.{AmongChildren.IsAmong-after, AmongChildren.from_optional-head, AmongChildren.next_of-child, Placing.ahead-on, Placing.from_successor}
-use Rattle.dom_content.specs.Drawing.{index_behind, index_at}
+use Rattle.dom_edit.specs.InsertionPoints.{IsAmong, from_optional, children_ahead}
+use Rattle.dom_edit.proofs.{IsAmongLemmas.IsAmong-after, IsAmongLemmas.from_optional-head, IsAmongLemmas.next_of-child, InsertionPointLemmas.ahead-on, InsertionPointLemmas.from_successor}
+use Rattle.dom_content.specs.DrawnParts.{index_behind, index_at}
 use Rattle.dom_model.proofs.Soundness.SoundEditing.{number_is}
 
 from-head : (ns : List ℕ) → from_optional (slice_get ns 0) ns ≡ ns
@@ -54,7 +54,7 @@ from-got (suc k) [] once = refl
 from-got zero (n ∷ ns) once = from-head (n ∷ ns)
 from-got (suc k) (n ∷ ns) once = from-rest n ns k once ∙ from-got k ns (λ m. let o = once m in omega arith)
 
-pub ahead-got : (k : ℕ) (ns : List ℕ) → ((m : ℕ) → hits m ns ≤ 1) → ahead_of (slice_get ns k) ns ≡ take k ns
+pub ahead-got : (k : ℕ) (ns : List ℕ) → ((m : ℕ) → hits m ns ≤ 1) → children_ahead (slice_get ns k) ns ≡ take k ns
 ahead-got zero [] once = refl
 ahead-got (suc k) [] once = refl
 ahead-got zero (n ∷ ns) once = elim (same_or n n) [ same _ t ↦ rw t refl | apart ne t ↦ absurd (ne refl) ]
@@ -71,7 +71,7 @@ past-absent n (x ∷ xs) h =
     ]
 
 -- what comes ahead of a number behind the front of a list
-behind-front : (until : Option ℕ) (pre rest more : List ℕ) → ahead_of until (pre ++ rest) ≡ pre ++ more → ahead_of until rest ≡ more
+behind-front : (until : Option ℕ) (pre rest more : List ℕ) → children_ahead until (pre ++ rest) ≡ pre ++ more → children_ahead until rest ≡ more
 behind-front until [] rest more e = e
 behind-front None (x ∷ pre) rest more e = behind-front None pre rest more (cc e)
 behind-front (Some u) (x ∷ pre) rest more e =
@@ -100,19 +100,19 @@ module _ (g : Grove Content) (s : IsForest g) (r : Range) (is : IsRange g.forest
   abbrev pub end_index : ℕ
   end_index = index_at g.forest r.end (path_below g.forest (top g s r is) r.end.node)
 
-  pub children-contained : filter (is_contained unit_count g.forest r) (children_of g.forest (top g s r is)) ≡ ahead_of (slice_get (children_of g.forest (top g s r is)) end_index) (from_optional (slice_get (children_of g.forest (top g s r is)) first_index) (children_of g.forest (top g s r is)))
+  pub children-contained : filter (is_contained unit_count g.forest r) (children_of g.forest (top g s r is)) ≡ children_ahead (slice_get (children_of g.forest (top g s r is)) end_index) (from_optional (slice_get (children_of g.forest (top g s r is)) first_index) (children_of g.forest (top g s r is)))
   children-contained =
       let once : (m : ℕ) → hits m children ≤ 1 = λ m. child-once g.forest s.once m (top g s r is) in
       let until = slice_get children end_index in
       let ways = forked g s r is in
       let more = filter (is_contained unit_count g.forest r) children in
-      let ahead : ahead_of until children ≡ take first_index children ++ more =
+      let ahead : children_ahead until children ≡ take first_index children ++ more =
       ahead-got end_index children once
       ∙ ahead-end (path_below g.forest (top g s r is) r.end.node) ways.second
       ∙ contained-between g s r is
       ∙ ap (λ ns. ns ++ more) (sym (through-start (path_below g.forest (top g s r is) r.start.node) ways.first)) in
-      sym (ap (ahead_of until) (from-got first_index children once)
-      ∙ behind-front until (take first_index children) (drop first_index children) more (ap (ahead_of until) (take-append-drop first_index children) ∙ ahead))
+      sym (ap (children_ahead until) (from-got first_index children once)
+      ∙ behind-front until (take first_index children) (drop first_index children) more (ap (children_ahead until) (take-append-drop first_index children) ∙ ahead))
 
 -- The same as it is asked.
 
@@ -185,11 +185,11 @@ module _ (g : Grove Content) (s : IsForest g) (r : Range) (is : IsRange g.forest
 
   pub children-found : (from until : Option ℕ) (first last : List ℕ) → first ≡ path_below g.forest (common_ancestor g.forest r.start.node r.end.node) r.start.node → last ≡ path_below g.forest (common_ancestor g.forest r.start.node r.end.node) r.end.node
       → from ≡ slice_get (children_of g.forest a) (index_behind g.forest r.start first) → until ≡ slice_get (children_of g.forest a) (index_at g.forest r.end last)
-      → ahead_of until (from_optional from (children_of g.forest a)) ≡ filter (is_contained unit_count g.forest r) (children_of g.forest (common_ancestor g.forest r.start.node r.end.node))
+      → children_ahead until (from_optional from (children_of g.forest a)) ≡ filter (is_contained unit_count g.forest r) (children_of g.forest (common_ancestor g.forest r.start.node r.end.node))
   children-found from until first last d e i j =
       let k = ap (λ m. slice_get (children_of g.forest m) (index_behind g.forest r.start first)) common ∙ ap (λ ns. slice_get (children_of g.forest (top g s r is)) (index_behind g.forest r.start ns)) d in
       let l = ap (λ m. slice_get (children_of g.forest m) (index_at g.forest r.end last)) common ∙ ap (λ ns. slice_get (children_of g.forest (top g s r is)) (index_at g.forest r.end ns)) e in
-      ap (λ m. ahead_of until (from_optional from (children_of g.forest m))) common
-      ∙ ap (λ o. ahead_of until (from_optional o (children_of g.forest (top g s r is)))) (i ∙ k)
-      ∙ ap (λ o. ahead_of o (from_optional (slice_get (children_of g.forest (top g s r is)) (first_index g s r is)) (children_of g.forest (top g s r is)))) (j ∙ l)
+      ap (λ m. children_ahead until (from_optional from (children_of g.forest m))) common
+      ∙ ap (λ o. children_ahead until (from_optional o (children_of g.forest (top g s r is)))) (i ∙ k)
+      ∙ ap (λ o. children_ahead o (from_optional (slice_get (children_of g.forest (top g s r is)) (first_index g s r is)) (children_of g.forest (top g s r is)))) (j ∙ l)
       ∙ sym (children-contained g s r is)

@@ -2,7 +2,7 @@
 use Rattle.std.proofs.Common.{◌≡◌, ℕ, None, Result, Ok, Err, IfOk, OnOk, sym, subst}
 use Rattle.dom_model.specs.Definitions.{check_extract, extract}
 use Rattle.dom_edit.specs.{declared.world.World.World, Whole.IsWhole, Whole.Follows, Whole.unwatched}
-use Rattle.dom_content.specs.Left.{HoldsBetween, MovesBetween, Extracted}
+use Rattle.dom_content.specs.LeftTokens.{HoldsBetween, MovesBetween, Extracted}
 use Rattle.dom_content.proofs.{ContentsLeft.left-extracted, ContentsLeft.held-extracted, ContentsLeft.moved-extracted, ContentsMarked.markers-extracted}
 
 module _ (old new : World) (r : ℕ) (before : IsWhole old) (after : IsWhole new) (allowed : check_extract r (unwatched old) ≡ None) where

@@ -5,8 +5,8 @@ use Rattle.dom_model.specs.Worlds.World as model
 use Rattle.dom_model.proofs.Soundness.{SoundContents.sound-extract, SoundDeleting.sound-delete_contents}
 use Rattle.dom_model.proofs.TokenText.{Contents.EndsTogether.ends-together, Contents.DeletedLeft.deleted-left, Contents.ExtractedLeft.extracted-left, Fragments.FragmentsBetween.extracted-between, Fragments.FragmentsBetween.cloned-between, Fragments.OriginsBetween.cloned-new, Fragments.OriginsBetween.cloned-labels, Fragments.OriginsBetween.cloned-attributes, Fragments.OriginsBetween.extracted-same, Fragments.OriginsBetween.extracted-new, Fragments.OriginsBetween.extracted-labels, Fragments.OriginsBetween.extracted-attributes}
 use Rattle.dom_edit.specs.{declared.world.World.World, Whole.IsWhole, Whole.Keeps, Whole.Follows, Whole.unwatched}
-use Rattle.dom_edit.proofs.Following.{keeps-unwatched, sound-unwatched}
-use Rattle.dom_content.specs.Left.{IsLeftOf, HoldsBetween, MovesBetween, CopiesBetween}
+use Rattle.dom_edit.proofs.FollowsLemmas.{keeps-unwatched, sound-unwatched}
+use Rattle.dom_content.specs.LeftTokens.{IsLeftOf, HoldsBetween, MovesBetween, CopiesBetween}
 
 -- the token texts of a world of the code are those of each world that it keeps
 texts-kept : (v : World) (w : model.World) → Keeps v w → texts_of (unwatched v) ≡ texts_of w

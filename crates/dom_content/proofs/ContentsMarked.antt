@@ -5,7 +5,7 @@ use Rattle.dom_model.proofs.Forests.Changes.{seen, nothing, just}
 use Rattle.dom_model.proofs.TokenText.{Contents.RangeText.range_text-between, EditsMade.EditsOfDeletedContents.leave-delete_contents, EditsMade.EditsOfDrawnContents.leave-extract, EditsMade.EditsOfDrawnContents.leave-clone_contents}
 use Rattle.dom_ranges.specs.Tables.{range_in}
 use Rattle.dom_edit.specs.{declared.world.World.World, Whole.IsWhole, Whole.Follows, Whole.unwatched, Markers.StandByEdits}
-use Rattle.dom_edit.proofs.{Following.sound-unwatched, Marking.stand-by_edits}
+use Rattle.dom_edit.proofs.{FollowsLemmas.sound-unwatched, StandByEditsLemmas.stand-by_edits}
 
 module _ (old new : World) (r : ℕ) (before : IsWhole old) (after : IsWhole new) where
   pub markers-deleted : Follows old new (delete_contents r) → StandByEdits old new (delete_contents_edits r)

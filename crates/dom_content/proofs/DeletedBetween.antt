@@ -7,10 +7,10 @@ use Rattle.dom_model.proofs.Forests.{Changes.seen, Changes.nothing, Changes.just
 use Rattle.dom_model.proofs.Soundness.{SoundDeleting.one, SoundDeleting.place_left, SoundNormalizing.each_kinds, SoundNormalizing.filter-passed}
 use Rattle.dom_model.proofs.RangesAndContents.LiveRangesKept.{KeepsLive, remove_each-live, replace_data-live}
 use Rattle.dom_edit.specs.{declared.world.World.World, Whole.IsWhole, Whole.Keeps, Whole.Follows, Whole.unwatched}
-use Rattle.dom_edit.proofs.{Following.follows-then, Following.keeps-unwatched, InsertedNodes.follows-as}
-use Rattle.dom_data.proofs.StaysWhole.{sound-unwatched}
+use Rattle.dom_edit.proofs.{FollowsLemmas.follows-then, FollowsLemmas.keeps-unwatched, InsertLemmas.follows-as}
+use Rattle.dom_data.proofs.IsWholeLemmas.{sound-unwatched}
 use Rattle.dom_ranges.specs.Tables.{range_in}
-use Rattle.dom_content.proofs.Deleted.{range-deleted}
+use Rattle.dom_content.proofs.DeleteContentsLemmas.{range-deleted}
 
 -- the contained nodes whose parent is not contained, in tree order
 abbrev is_top : Forest Content → Range → ℕ → Bool

@@ -13,10 +13,10 @@ use Rattle.dom_model.proofs.Worlds.{Measured.length-beside, Measured.kind-beside
 use Rattle.dom_model.proofs.RangesAndContents.{DrawnPaths.hits-filter, PathsToEnds.common-above}
 use Rattle.dom_model.proofs.TokenText.EditsMade.EditsOfDrawnContents.{live-contents_drawn}
 use Rattle.dom_ranges.specs.Tables.{range_in}
-use Rattle.dom_edit.specs.{declared.world.World.World, Inserting.AreThere, Whole.IsWhole, Whole.Keeps, Whole.Follows, Whole.unwatched}
-use Rattle.dom_edit.proofs.{Following.follows-then, Following.keeps-unwatched, InsertedNodes.item-hit, InsertedNodes.follows-as}
-use Rattle.dom_data.proofs.StaysWhole.{sound-unwatched}
-use Rattle.dom_content.specs.{Paths.HasRoom, Drawing.AreParts, Drawing.in_one_data, Drawing.parts_drawn, Drawing.filled}
+use Rattle.dom_edit.specs.{declared.world.World.World, Insertion.AreThere, Whole.IsWhole, Whole.Keeps, Whole.Follows, Whole.unwatched}
+use Rattle.dom_edit.proofs.{FollowsLemmas.follows-then, FollowsLemmas.keeps-unwatched, InsertLemmas.item-hit, InsertLemmas.follows-as}
+use Rattle.dom_data.proofs.IsWholeLemmas.{sound-unwatched}
+use Rattle.dom_content.specs.{Paths.HasNumbers, DrawnParts.AreParts, DrawnParts.in_one_data, DrawnParts.parts_drawn, DrawnParts.filled}
 use Rattle.dom_content.proofs.{PieceSteps.room-before, PieceSteps.room-after, DrawnNumbers.head-rises, DrawnNumbers.rest-rises, DrawnNumbers.filled-rises}
 
 -- The parts that go into a fragment in turn.
@@ -26,19 +26,19 @@ module _ (moves : Bool) (into : ℕ) (r : Range) (first contained last : List �
   parts = parts_drawn moves into r first contained last
 
   -- the offset and the lists as the calls are given them
-  pub room-tail : (a : World) (o : ℕ) (p : List ℕ) → o ≡ r.start.offset → p ≡ first → HasRoom a (parts_drawn moves into r first contained last) → HasRoom a (tail_into moves into o p)
+  pub room-tail : (a : World) (o : ℕ) (p : List ℕ) → o ≡ r.start.offset → p ≡ first → HasNumbers a (parts_drawn moves into r first contained last) → HasNumbers a (tail_into moves into o p)
   room-tail a o p d dp h =
-      subst (λ x. HasRoom a (tail_into moves into x p)) (sym d)
-      (subst (λ ns. HasRoom a (tail_into moves into r.start.offset ns)) (sym dp)
+      subst (λ x. HasNumbers a (tail_into moves into x p)) (sym d)
+      (subst (λ ns. HasNumbers a (tail_into moves into r.start.offset ns)) (sym dp)
       (room-before a parts (tail_into moves into r.start.offset first) (λ w. head_into moves into r.end.offset last (children_into moves into contained w)) (λ w k. refl) (rest-rises moves into r.end.offset contained last) h))
 
   tailed : (a b : World) (o : ℕ) (p : List ℕ) → o ≡ r.start.offset → p ≡ first → Follows a b (tail_into moves into o p) → Follows a b (tail_into moves into r.start.offset first)
   tailed a b o p d dp f = subst (λ ns. Follows a b (tail_into moves into r.start.offset ns)) dp (subst (λ x. Follows a b (tail_into moves into x p)) d f)
 
-  pub room-children : (a b : World) (o : ℕ) (p c : List ℕ) → o ≡ r.start.offset → p ≡ first → c ≡ contained → Follows a b (tail_into moves into o p) → HasRoom a (parts_drawn moves into r first contained last) → HasRoom b (children_into moves into c)
+  pub room-children : (a b : World) (o : ℕ) (p c : List ℕ) → o ≡ r.start.offset → p ≡ first → c ≡ contained → Follows a b (tail_into moves into o p) → HasNumbers a (parts_drawn moves into r first contained last) → HasNumbers b (children_into moves into c)
   room-children a b o p c d dp dc f h =
       let rest = room-after a b parts (tail_into moves into r.start.offset first) (λ w. head_into moves into r.end.offset last (children_into moves into contained w)) (λ w k. refl) (tailed a b o p d dp f) h in
-      subst (λ ns. HasRoom b (children_into moves into ns)) (sym dc)
+      subst (λ ns. HasNumbers b (children_into moves into ns)) (sym dc)
       (room-before b (λ w. head_into moves into r.end.offset last (children_into moves into contained w)) (children_into moves into contained) (head_into moves into r.end.offset last) (λ w k. refl) (head-rises moves into r.end.offset last) rest)
 
   pub follows-parts : (a b e z : World) (o i : ℕ) (p c l : List ℕ) → o ≡ r.start.offset → p ≡ first → c ≡ contained → i ≡ r.end.offset → l ≡ last →
@@ -177,10 +177,10 @@ module _ (v : World) (h : IsWhole v) (r : Range) (is : IsRange v.tree.forest r) 
       pub follows-drawn : (x y : World) → Follows v x (new_fragment d) → Follows x y (filled moves one_data into r first contained last) → Follows v y (contents_drawn moves r)
       follows-drawn x y e g = follows-as v y (λ w. filled moves one_data into r first contained last (new_fragment d w)) (contents_drawn moves r) drawn-is (follows-then v x y (new_fragment d) (filled moves one_data into r first contained last) e g)
 
-      pub room-fragment : HasRoom v (contents_drawn moves r) → HasRoom v (new_fragment d)
+      pub room-fragment : HasNumbers v (contents_drawn moves r) → HasNumbers v (new_fragment d)
       room-fragment e = room-before v (contents_drawn moves r) (new_fragment d) (filled moves one_data into r first contained last) drawn-is (filled-rises moves one_data into r first contained last) e
 
-      pub room-filled : (x : World) → Follows v x (new_fragment d) → HasRoom v (contents_drawn moves r) → HasRoom x (filled moves one_data into r first contained last)
+      pub room-filled : (x : World) → Follows v x (new_fragment d) → HasNumbers v (contents_drawn moves r) → HasNumbers x (filled moves one_data into r first contained last)
       room-filled x e g = room-after v x (contents_drawn moves r) (new_fragment d) (filled moves one_data into r first contained last) drawn-is e g
 
 -- The live range.
@@ -202,14 +202,14 @@ module _ (v : World) (n : ℕ) (r : Range) (e : range_in v.ranges n ≡ Some r) 
       go true = refl
       go false = refl
 
-  pub room-extracted : (extract n (unwatched v)).made ≤ 4294967295 → HasRoom v (contents_drawn true r)
+  pub room-extracted : (extract n (unwatched v)).made ≤ 4294967295 → HasNumbers v (contents_drawn true r)
   room-extracted l = record {
     stands_for = unwatched v;
     keeps = keeps-unwatched v;
     within = subst (λ m. m ≤ 4294967295) (ap (λ (x : model.World). x.made) (range-extracted (unwatched v) (keeps-unwatched v)) ∙ made-extracted (unwatched v)) l;
   }
 
-  pub room-cloned : (clone_contents n (unwatched v)).made ≤ 4294967295 → HasRoom v (contents_drawn false r)
+  pub room-cloned : (clone_contents n (unwatched v)).made ≤ 4294967295 → HasNumbers v (contents_drawn false r)
   room-cloned l = record {
     stands_for = unwatched v;
     keeps = keeps-unwatched v;

@@ -2,7 +2,7 @@
 use Rattle.std.proofs.Common.{ℕ, ◌-◌, ◌≤◌, Bool, true, false, List, [], ◌∷◌, length, take, drop}
 use Rattle.dom_model.specs.Definitions.{is_character_data, children_of, Range, World, past, up_to, kind_passes, append, is_collapsed, data_of, clone_node, children_into, tail_into, head_into}
 use Rattle.dom_model.proofs.Counting.{CountsKept.kept-same, CountsKept.append-kept, CountsOfContents.clone-grown, CountsOfContents.units_into-grown, CountsOfContents.children_moved-kept, CopiesGrow.Grows, CopiesGrow.grows-if, CopiesGrow.copy-grows, CopiesGrow.grows-then}
-use Rattle.dom_content.specs.Drawing.{parts_drawn, filled}
+use Rattle.dom_content.specs.DrawnParts.{parts_drawn, filled}
 
 children-grow : (moves : Bool) (into : ℕ) (ns : List ℕ) (w : World) → Grows w (children_into moves into ns w)
 children-grow true into ns w = (0, children_moved-kept into ns w)

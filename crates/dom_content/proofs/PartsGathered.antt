@@ -6,15 +6,15 @@ use Rattle.dom_model.specs.Definitions.{hits, among, head_of, up_to, from_first,
 use Rattle.dom_model.proofs.PlainLists.Numbers.{same_or, same, apart}
 use Rattle.dom_model.proofs.Forests.{Climbing.ancestors-there, Climbing.hits-first, Climbing.hits-reverse, Climbing.hits-among, Entries.occurs-HasNode}
 use Rattle.dom_model.proofs.BoundaryPoints.RootsKept.{hits-up_to}
-use Rattle.dom_edit.specs.Places.{from_optional, ahead_of}
-use Rattle.dom_content.specs.Drawing.{AreParts, index_behind}
-use Rattle.dom_content.proofs.{ChildrenBetween.first-way, ChildrenBetween.children-found, PlacesAfter.common-apart, PlacesAfter.place-behind}
+use Rattle.dom_edit.specs.InsertionPoints.{from_optional, children_ahead}
+use Rattle.dom_content.specs.DrawnParts.{AreParts, index_behind}
+use Rattle.dom_content.proofs.{ChildrenBetween.first-way, ChildrenBetween.children-found, NewPlaceLemmas.common-apart, NewPlaceLemmas.place-behind}
 
 up_to-front : (n : ℕ) (ns : List ℕ) → up_to n (n ∷ ns) ≡ []
 up_to-front n ns = elim (same_or n n) [ same _ t ↦ rw t refl | apart ne t ↦ absurd (ne refl) ]
 
 -- nothing comes from a number on and ahead of it
-nothing-between : (o : Option ℕ) (ns : List ℕ) → ahead_of o (from_optional o ns) ≡ []
+nothing-between : (o : Option ℕ) (ns : List ℕ) → children_ahead o (from_optional o ns) ≡ []
 nothing-between None ns = refl
 nothing-between (Some n) ns = go ns
   where

@@ -7,9 +7,9 @@ use Rattle.dom_model.specs.Worlds.World as model
 use Rattle.dom_model.proofs.Forests.Entries.{HasNode-occurs}
 use Rattle.dom_model.proofs.Counting.{CountsKept.append-kept, CountsOfContents.units_into-grown}
 use Rattle.dom_edit.specs.{declared.world.World.World, Whole.IsWhole, Whole.Keeps, Whole.Follows}
-use Rattle.dom_edit.proofs.{Following.follows-none, Following.follows-then, InsertedNodes.follows-as}
-use Rattle.dom_content.specs.{declared.partial.Partial.Partial, Paths.HasRoom, Paths.StillHeld, Paths.Stays, Paths.KindsStay, Paths.opened, Paths.inner_of, Paths.closed_one, Paths.closed, Coming.IsRising, Coming.IsHolder, Coming.IsOld, Coming.AreOld, Coming.MayDraw, Coming.IsUnfinished, Coming.AreUnfinished, Coming.MayClose, Coming.IsPathTo}
-use Rattle.dom_content.proofs.{StaysOf.stays-none, StaysOf.stays-then, Comings.Goes, Comings.first-old, Comings.rest-old, Comings.one-old, Comings.old-there, Comings.old-goes, Comings.all_unfinished-go, Comings.inner-holder, Comings.goes-closed, PathLists.listed, PathLists.none-left, PieceSteps.room-before, PieceSteps.room-after, PieceSteps.room-as, PieceSteps.children-grow}
+use Rattle.dom_edit.proofs.{FollowsLemmas.follows-none, FollowsLemmas.follows-then, InsertLemmas.follows-as}
+use Rattle.dom_content.specs.{declared.partially_contained.Partial.Partial, Paths.HasNumbers, Paths.StillHeld, Paths.Stays, Paths.KindsStay, Paths.opened, Paths.inner_of, Paths.closed_one, Paths.closed_all, DrawConditions.HasRisingNumbers, DrawConditions.IsHolder, DrawConditions.IsOld, DrawConditions.AreOld, DrawConditions.MayDraw, DrawConditions.IsUnfinished, DrawConditions.AreUnfinished, DrawConditions.MayClose, DrawConditions.IsPathTo}
+use Rattle.dom_content.proofs.{StaysLemmas.stays-none, StaysLemmas.stays-then, MayDrawLemmas.Goes, MayDrawLemmas.first-old, MayDrawLemmas.rest-old, MayDrawLemmas.one-old, MayDrawLemmas.old-there, MayDrawLemmas.old-goes, MayDrawLemmas.all_unfinished-go, MayDrawLemmas.inner-holder, MayDrawLemmas.goes-closed, PathLists.listed, PathLists.none-left, PieceSteps.room-before, PieceSteps.room-after, PieceSteps.room-as, PieceSteps.children-grow}
 use Rattle.dom_model.proofs.Worlds.Owners.{kind-there}
 
 -- What a test picks.
@@ -59,16 +59,16 @@ tail-opens moves into offset n m path w =
     let d = children-grow moves inner (past m (children_of w.forest n)) (tail_into moves inner offset (m ∷ path) v) in
     omega (arith, c, d))
 
-pub closed-grows : (moves : Bool) (ps : List Partial) (w : model.World) → w.made ≤ (closed moves ps w).made
+pub closed-grows : (moves : Bool) (ps : List Partial) (w : model.World) → w.made ≤ (closed_all moves ps w).made
 closed-grows moves [] w = omega arith
 closed-grows moves (p ∷ ps) w =
     let a = closed-grows moves ps w in
-    let b = children-grow moves p.inner p.children.items (closed moves ps w) in
-    let c = append-grows p.inner p.copy (children_into moves p.inner p.children.items (closed moves ps w)) in
+    let b = children-grow moves p.inner p.children.items (closed_all moves ps w) in
+    let c = append-grows p.inner p.copy (children_into moves p.inner p.children.items (closed_all moves ps w)) in
     omega (arith, a, b, c)
 
 -- room for what takes less
-pub room-within : (v : World) (whole step : model.World → model.World) → ((w : model.World) → Keeps v w → (step w).made ≤ (whole w).made) → HasRoom v whole → HasRoom v step
+pub room-within : (v : World) (whole step : model.World → model.World) → ((w : model.World) → Keeps v w → (step w).made ≤ (whole w).made) → HasNumbers v whole → HasNumbers v step
 room-within v whole step less r =
     record { stands_for = r.stands_for; keeps = r.keeps; within = (let l = less r.stands_for r.keeps in let i = r.within in omega (arith, l, i)) }
 
@@ -92,7 +92,7 @@ module _ (v : World) (into n d copy : ℕ) (ec : copy ≡ v.tree.made) (ed : d �
     follows-put : Follows v put copy_put
     follows-put = follows-then v mid put (clone_node false n) (append copy into) f g
 
-    pub room-inner : HasRoom v (opened into n) → HasRoom put (new_fragment d)
+    pub room-inner : HasNumbers v (opened into n) → HasNumbers put (new_fragment d)
     room-inner r = room-after v put (opened into n) copy_put (new_fragment d) opened-as follows-put r
 
     pub inner-is : (inner : ℕ) → inner ≡ put.tree.made → (w : model.World) → Keeps v w → inner ≡ inner_of into n w
@@ -102,12 +102,12 @@ module _ (v : World) (into n d copy : ℕ) (ec : copy ≡ v.tree.made) (ed : d �
     pub follows-opened : (new : World) → Follows put new (new_fragment d) → Follows v new (opened into n)
     follows-opened new h = follows-as v new (λ w. new_fragment d (copy_put w)) (opened into n) opened-as (follows-then v put new copy_put (new_fragment d) follows-put h)
 
-pub room-copy : (v : World) (into n : ℕ) → HasRoom v (opened into n) → HasRoom v (clone_node false n)
+pub room-copy : (v : World) (into n : ℕ) → HasNumbers v (opened into n) → HasNumbers v (clone_node false n)
 room-copy v into n r = room-within v (opened into n) (clone_node false n) (λ w k. let a = append-grows w.made into (clone_node false n w) in omega (arith, a)) r
 
 -- One is finished.
 
-pub room-children : (v : World) (moves : Bool) (p : Partial) → HasRoom v (closed_one moves p) → HasRoom v (children_into moves p.inner p.children.items)
+pub room-children : (v : World) (moves : Bool) (p : Partial) → HasNumbers v (closed_one moves p) → HasNumbers v (children_into moves p.inner p.children.items)
 room-children v moves p r = room-within v (closed_one moves p) (children_into moves p.inner p.children.items) (λ w k. append-grows p.inner p.copy (children_into moves p.inner p.children.items w)) r
 
 pub follows-closed : (v mid new : World) (moves : Bool) (p : Partial) → Follows v mid (children_into moves p.inner p.children.items) → Follows mid new (append p.inner p.copy) → Follows v new (closed_one moves p)
@@ -115,7 +115,7 @@ follows-closed v mid new moves p f g = follows-then v mid new (children_into mov
 
 -- All are finished, the last one first.
 
-pub closed-push : (moves : Bool) (ps : List Partial) (p : Partial) (w : model.World) → closed moves (ps ++ p ∷ []) w ≡ closed moves ps (closed_one moves p w)
+pub closed-push : (moves : Bool) (ps : List Partial) (p : Partial) (w : model.World) → closed_all moves (ps ++ p ∷ []) w ≡ closed_all moves ps (closed_one moves p w)
 closed-push moves [] p w = refl
 closed-push moves (q ∷ ps) p w = ap (closed_one moves q) (closed-push moves ps p w)
 
@@ -135,10 +135,10 @@ pub record IsClosing (initial now : World) (moves : Bool) (all parts : List Part
   pub whole : IsWhole now
   pub still : Stays initial now
   pub may : MayClose now parts
-  pub room : HasRoom now (closed moves parts)
-  pub rest : (final : World) → Follows now final (closed moves parts) → Follows initial final (closed moves all)
+  pub room : HasNumbers now (closed_all moves parts)
+  pub rest : (final : World) → Follows now final (closed_all moves parts) → Follows initial final (closed_all moves all)
 
-pub closing-first : (v : World) (moves : Bool) (all : List Partial) → IsWhole v → MayClose v all → HasRoom v (closed moves all) → IsClosing v v moves all all
+pub closing-first : (v : World) (moves : Bool) (all : List Partial) → IsWhole v → MayClose v all → HasNumbers v (closed_all moves all) → IsClosing v v moves all all
 closing-first v moves all h m r = record { whole = h; still = stays-none v; may = m; room = r; rest = λ final f. f }
 
 module _ (initial now : World) (moves : Bool) (all parts : List Partial) (p : Partial) (t : IsClosing initial now moves all (parts ++ p ∷ [])) where
@@ -148,8 +148,8 @@ module _ (initial now : World) (moves : Bool) (all parts : List Partial) (p : Pa
   pub closing-last : MayClose now (p ∷ [])
   closing-last = record { low = t.may.low; rising = t.may.rising; parts = (last, tt) }
 
-  pub closing-room : HasRoom now (closed_one moves p)
-  closing-room = room-before now (closed moves (parts ++ p ∷ [])) (closed_one moves p) (closed moves parts) (λ w k. closed-push moves parts p w) (closed-grows moves parts) t.room
+  pub closing-room : HasNumbers now (closed_one moves p)
+  closing-room = room-before now (closed_all moves (parts ++ p ∷ [])) (closed_one moves p) (closed_all moves parts) (λ w k. closed-push moves parts p w) (closed-grows moves parts) t.room
 
   pub closing-next : (next : World) → Follows now next (closed_one moves p) → Stays now next → IsWhole next → IsClosing initial next moves all parts
   closing-next next f s h =
@@ -158,13 +158,13 @@ module _ (initial now : World) (moves : Bool) (all parts : List Partial) (p : Pa
         whole = h;
         still = stays-then initial now next t.still s;
         may = record { low = t.may.low; rising = g.rising; parts = all_unfinished-go t.may.low now next g parts (unfinished-front t.may.low now.tree.forest parts p t.may.parts) };
-        room = room-after now next (closed moves (parts ++ p ∷ [])) (closed_one moves p) (closed moves parts) (λ w k. closed-push moves parts p w) f t.room;
+        room = room-after now next (closed_all moves (parts ++ p ∷ [])) (closed_one moves p) (closed_all moves parts) (λ w k. closed-push moves parts p w) f t.room;
         rest = λ final g.
-            t.rest final (follows-as now final (λ w. closed moves parts (closed_one moves p w)) (closed moves (parts ++ p ∷ [])) (λ w k. closed-push moves parts p w)
-            (follows-then now next final (closed_one moves p) (closed moves parts) f g));
+            t.rest final (follows-as now final (λ w. closed_all moves parts (closed_one moves p w)) (closed_all moves (parts ++ p ∷ [])) (λ w k. closed-push moves parts p w)
+            (follows-then now next final (closed_one moves p) (closed_all moves parts) f g));
       }
 
-pub closing-end : (initial now : World) (moves : Bool) (all : List Partial) → IsClosing initial now moves all [] → Follows initial now (closed moves all)
+pub closing-end : (initial now : World) (moves : Bool) (all : List Partial) → IsClosing initial now moves all [] → Follows initial now (closed_all moves all)
 closing-end initial now moves all t = t.rest now (follows-none now)
 
 -- A copy with some of the children.
@@ -179,13 +179,13 @@ module _ (v mid : World) (moves : Bool) (into n : ℕ) (kids : List ℕ) (p : Pa
       ∙ ap (λ (i : ℕ). append i w.made (children_into moves i p.children.items (opened into n w))) (ei w k)
       ∙ ap (λ (ks : List ℕ). append (inner_of into n w) w.made (children_into moves (inner_of into n w) ks (opened into n w))) ek)
 
-  pub room-closing : HasRoom v copied → HasRoom mid (closed_one moves p)
+  pub room-closing : HasNumbers v copied → HasNumbers mid (closed_one moves p)
   room-closing r = room-after v mid copied (opened into n) (closed_one moves p) copied-as f r
 
   pub follows-copy : (new : World) → Follows mid new (closed_one moves p) → Follows v new copied
   follows-copy new g = follows-as v new (λ w. closed_one moves p (opened into n w)) copied copied-as (follows-then v mid new (opened into n) (closed_one moves p) f g)
 
-pub room-open : (v : World) (moves : Bool) (into n : ℕ) (kids : List ℕ) → HasRoom v (copy_into into n (λ inner u. children_into moves inner kids u)) → HasRoom v (opened into n)
+pub room-open : (v : World) (moves : Bool) (into n : ℕ) (kids : List ℕ) → HasNumbers v (copy_into into n (λ inner u. children_into moves inner kids u)) → HasNumbers v (opened into n)
 room-open v moves into n kids r =
     room-within v (copy_into into n (λ inner u. children_into moves inner kids u)) (opened into n)
     (λ w k. copy-grows into n (λ inner u. children_into moves inner kids u) w (λ inner u. children-grow moves inner kids u)) r
@@ -199,7 +199,7 @@ module _ (v : World) (moves : Bool) (into offset n : ℕ) where
         cond-true (kind_passes is_character_data w.forest n) _ _ (ap (λ (g : Forest Content). kind_passes is_character_data g n) k.forest ∙ is_data)
         ∙ ap (λ (c : ℕ). units_into moves into n offset c w) (ap (λ (g : Forest Content). length (content_in (entry_in g n)).text - offset) k.forest ∙ sym ec)
 
-    pub room-tail_units : HasRoom v (tail_into moves into offset (n ∷ [])) → HasRoom v (units_into moves into n offset count)
+    pub room-tail_units : HasNumbers v (tail_into moves into offset (n ∷ [])) → HasNumbers v (units_into moves into n offset count)
     room-tail_units r = room-as v (tail_into moves into offset (n ∷ [])) (units_into moves into n offset count) tail-units r
 
     pub follows-tail_units : (new : World) → Follows v new (units_into moves into n offset count) → Follows v new (tail_into moves into offset (n ∷ []))
@@ -214,7 +214,7 @@ module _ (v : World) (moves : Bool) (into offset n : ℕ) where
         cond-false (kind_passes is_character_data w.forest n) _ _ (ap (λ (g : Forest Content). kind_passes is_character_data g n) k.forest ∙ other)
         ∙ ap (λ (ks : List ℕ). copy_into into n (λ inner u. children_into moves inner ks u) w) (ap (λ (g : Forest Content). drop offset (children_of g n)) k.forest ∙ sym ek)
 
-    pub room-tail_copy : HasRoom v (tail_into moves into offset (n ∷ [])) → HasRoom v tail_copied
+    pub room-tail_copy : HasNumbers v (tail_into moves into offset (n ∷ [])) → HasNumbers v tail_copied
     room-tail_copy r = room-as v (tail_into moves into offset (n ∷ [])) tail_copied tail-copy r
 
     pub follows-tail_copy : (new : World) → Follows v new tail_copied → Follows v new (tail_into moves into offset (n ∷ []))
@@ -226,15 +226,15 @@ pub record IsGoingDown (initial now : World) (moves : Bool) (offset : ℕ) (whol
   pub stays_whole : IsWhole now
   pub still : Stays initial now
   pub low : ℕ
-  pub rising : IsRising low now
+  pub rising : HasRisingNumbers low now
   pub into : IsHolder low now.tree.forest here
   pub nodes : AreOld low now.tree.forest path
   pub way : IsPathTo now.tree.forest offset path
   pub unfinished : AreUnfinished low now.tree.forest parts
-  pub room : HasRoom now (λ w. closed moves parts (walk here path w))
-  pub rest : (final : World) → Follows now final (λ w. closed moves parts (walk here path w)) → Follows initial final whole
+  pub room : HasNumbers now (λ w. closed_all moves parts (walk here path w))
+  pub rest : (final : World) → Follows now final (λ w. closed_all moves parts (walk here path w)) → Follows initial final whole
 
-pub down-first : (v : World) (moves : Bool) (offset : ℕ) (walk : ℕ → List ℕ → model.World → model.World) (into : ℕ) (path : List ℕ) → IsWhole v → MayDraw v into path → IsPathTo v.tree.forest offset path → HasRoom v (walk into path) → IsGoingDown v v moves offset (walk into path) walk [] into path
+pub down-first : (v : World) (moves : Bool) (offset : ℕ) (walk : ℕ → List ℕ → model.World → model.World) (into : ℕ) (path : List ℕ) → IsWhole v → MayDraw v into path → IsPathTo v.tree.forest offset path → HasNumbers v (walk into path) → IsGoingDown v v moves offset (walk into path) walk [] into path
 down-first v moves offset walk into path h m p r = record { stays_whole = h; still = stays-none v; low = m.low; rising = m.rising; into = m.holder; nodes = m.nodes; way = p; unfinished = tt; room = r; rest = λ final f. f }
 
 module _ (initial now : World) (moves : Bool) (offset : ℕ) (whole : model.World → model.World) (walk : ℕ → List ℕ → model.World → model.World) (parts : List Partial) (here n : ℕ) (path : List ℕ) (t : IsGoingDown initial now moves offset whole walk parts here (n ∷ path)) where
@@ -247,9 +247,9 @@ module _ (initial now : World) (moves : Bool) (offset : ℕ) (whole : model.Worl
   pub down-may : MayDraw now here (n ∷ [])
   down-may = record { low = t.low; rising = t.rising; holder = t.into; nodes = one-old t.low now.tree.forest n down-first_old }
 
-  pub down-room : (step : model.World → model.World) → ((w : model.World) → Keeps now w → (step w).made ≤ (walk here (n ∷ path) w).made) → HasRoom now step
+  pub down-room : (step : model.World → model.World) → ((w : model.World) → Keeps now w → (step w).made ≤ (walk here (n ∷ path) w).made) → HasNumbers now step
   down-room step less =
-      room-within now (λ w. closed moves parts (walk here (n ∷ path) w)) step
+      room-within now (λ w. closed_all moves parts (walk here (n ∷ path) w)) step
       (λ w k. let a = less w k in let b = closed-grows moves parts (walk here (n ∷ path) w) in omega (arith, a, b)) t.room
 
   pub down-next : (next : World) (step : model.World → model.World) (p : Partial) → ((w : model.World) → Keeps now w → walk here (n ∷ path) w ≡ closed_one moves p (walk p.inner path (step w))) → Follows now next step → Stays now next → IsWhole next → Goes t.low now next → IsUnfinished t.low next.tree.forest p → IsPathTo next.tree.forest offset path →
@@ -263,24 +263,24 @@ module _ (initial now : World) (moves : Bool) (offset : ℕ) (whole : model.Worl
     nodes = λ m x. old-goes t.low now next g m (rest-old t.low now.tree.forest n path t.nodes m x);
     way = e;
     unfinished = unfinished-push t.low next.tree.forest parts p (all_unfinished-go t.low now next g parts t.unfinished) u;
-    room = room-after now next (λ w. closed moves parts (walk here (n ∷ path) w)) step (λ w. closed moves (parts ++ p ∷ []) (walk p.inner path w)) same_closed f t.room;
+    room = room-after now next (λ w. closed_all moves parts (walk here (n ∷ path) w)) step (λ w. closed_all moves (parts ++ p ∷ []) (walk p.inner path w)) same_closed f t.room;
     rest = λ final g.
-        t.rest final (follows-as now final (λ w. closed moves (parts ++ p ∷ []) (walk p.inner path (step w))) (λ w. closed moves parts (walk here (n ∷ path) w)) same_closed
-        (follows-then now next final step (λ w. closed moves (parts ++ p ∷ []) (walk p.inner path w)) f g));
+        t.rest final (follows-as now final (λ w. closed_all moves (parts ++ p ∷ []) (walk p.inner path (step w))) (λ w. closed_all moves parts (walk here (n ∷ path) w)) same_closed
+        (follows-then now next final step (λ w. closed_all moves (parts ++ p ∷ []) (walk p.inner path w)) f g));
   }
     where
-      same_closed : (w : model.World) → Keeps now w → closed moves parts (walk here (n ∷ path) w) ≡ closed moves (parts ++ p ∷ []) (walk p.inner path (step w))
-      same_closed w k = ap (closed moves parts) (same w k) ∙ sym (closed-push moves parts p (walk p.inner path (step w)))
+      same_closed : (w : model.World) → Keeps now w → closed_all moves parts (walk here (n ∷ path) w) ≡ closed_all moves (parts ++ p ∷ []) (walk p.inner path (step w))
+      same_closed w k = ap (closed_all moves parts) (same w k) ∙ sym (closed-push moves parts p (walk p.inner path (step w)))
 
   module _ (last : World) (f : Follows now last (walk here (n ∷ path))) where
     pub down-close : Goes t.low now last → MayClose last parts
     down-close g = record { low = t.low; rising = g.rising; parts = all_unfinished-go t.low now last g parts t.unfinished }
 
-    pub down-close_room : HasRoom last (closed moves parts)
-    down-close_room = room-after now last (λ w. closed moves parts (walk here (n ∷ path) w)) (walk here (n ∷ path)) (closed moves parts) (λ w k. refl) f t.room
+    pub down-close_room : HasNumbers last (closed_all moves parts)
+    down-close_room = room-after now last (λ w. closed_all moves parts (walk here (n ∷ path) w)) (walk here (n ∷ path)) (closed_all moves parts) (λ w k. refl) f t.room
 
-    pub down-end : (final : World) → Follows last final (closed moves parts) → Follows initial final whole
-    down-end final g = t.rest final (follows-then now last final (walk here (n ∷ path)) (closed moves parts) f g)
+    pub down-end : (final : World) → Follows last final (closed_all moves parts) → Follows initial final whole
+    down-end final g = t.rest final (follows-then now last final (walk here (n ∷ path)) (closed_all moves parts) f g)
 
 -- the first node of a tail is opened
 pub tail-down : (v : World) (moves : Bool) (into offset n m : ℕ) (path : List ℕ) (p : Partial) → p.copy ≡ v.tree.made → ((w : model.World) → Keeps v w → p.inner ≡ inner_of into n w) → p.children.items ≡ past m (children_of v.tree.forest n) →

@@ -8,14 +8,14 @@ use Rattle.dom_model.proofs.MutationAlgorithms.Extending.{Extends, extends-besid
 use Rattle.dom_model.proofs.Soundness.SoundAppending.{clone_copy, clone_with_copy, fragment_made}
 use Rattle.dom_model.proofs.Counting.{CountsKept.append-kept, CountsOfData.replace_data-kept}
 use Rattle.dom_edit.specs.{declared.world.World.World, Whole.IsWhole, Whole.Keeps, Whole.Follows, Whole.unwatched}
-use Rattle.dom_edit.proofs.{Following.follows-none, Following.follows-then, InsertedNodes.follows-as, InsertedNodes.forest-after, PlacedWorlds.sound-unwatched}
-use Rattle.dom_content.specs.{Paths.HasRoom, Paths.StillHeld, Paths.Stays, Paths.KindsStay, Paths.DataStays, Coming.AreOld, Coming.MayDraw}
-use Rattle.dom_content.proofs.{StaysOf.stays-none, StaysOf.stays-then, Comings.first-old, Comings.rest-old, Comings.one-old, Comings.old-there, Comings.holder-goes, Comings.old-goes, Comings.goes-child}
+use Rattle.dom_edit.proofs.{FollowsLemmas.follows-none, FollowsLemmas.follows-then, InsertLemmas.follows-as, InsertLemmas.forest-after, PlacedWorldLemmas.sound-unwatched}
+use Rattle.dom_content.specs.{Paths.HasNumbers, Paths.StillHeld, Paths.Stays, Paths.KindsStay, Paths.DataStays, DrawConditions.AreOld, DrawConditions.MayDraw}
+use Rattle.dom_content.proofs.{StaysLemmas.stays-none, StaysLemmas.stays-then, MayDrawLemmas.first-old, MayDrawLemmas.rest-old, MayDrawLemmas.one-old, MayDrawLemmas.old-there, MayDrawLemmas.holder-goes, MayDrawLemmas.old-goes, MayDrawLemmas.goes-child}
 
 -- Room.
 
 -- room for a step is room for its first part
-pub room-before : (v : World) (whole step after : model.World → model.World) → ((w : model.World) → Keeps v w → whole w ≡ after (step w)) → ((w : model.World) → w.made ≤ (after w).made) → HasRoom v whole → HasRoom v step
+pub room-before : (v : World) (whole step after : model.World → model.World) → ((w : model.World) → Keeps v w → whole w ≡ after (step w)) → ((w : model.World) → w.made ≤ (after w).made) → HasNumbers v whole → HasNumbers v step
 room-before v whole step after same grows r =
     let w = r.stands_for in
     record {
@@ -25,7 +25,7 @@ room-before v whole step after same grows r =
     }
 
 -- and, once that is done, for the rest
-pub room-after : (a b : World) (whole step after : model.World → model.World) → ((w : model.World) → Keeps a w → whole w ≡ after (step w)) → Follows a b step → HasRoom a whole → HasRoom b after
+pub room-after : (a b : World) (whole step after : model.World → model.World) → ((w : model.World) → Keeps a w → whole w ≡ after (step w)) → Follows a b step → HasNumbers a whole → HasNumbers b after
 room-after a b whole step after same f r =
     let w = r.stands_for in
     record {
@@ -34,13 +34,13 @@ room-after a b whole step after same f r =
       within = (let e = ap (λ (x : model.World). x.made) (same w r.keeps) in let i = r.within in omega (arith, e, i));
     }
 
-pub room-as : (v : World) (whole step : model.World → model.World) → ((w : model.World) → Keeps v w → whole w ≡ step w) → HasRoom v whole → HasRoom v step
+pub room-as : (v : World) (whole step : model.World → model.World) → ((w : model.World) → Keeps v w → whole w ≡ step w) → HasNumbers v whole → HasNumbers v step
 room-as v whole step same r = room-before v whole step (λ w. w) same (λ w. omega arith) r
 
-pub room-fragment : (v : World) (d : ℕ) → HasRoom v (new_fragment d) → v.tree.made < 4294967295
+pub room-fragment : (v : World) (d : ℕ) → HasNumbers v (new_fragment d) → v.tree.made < 4294967295
 room-fragment v d r = let i = r.within in let k = r.keeps.made in omega (arith, i, k)
 
-pub room-clone : (v : World) (deep : Bool) (n : ℕ) → HasRoom v (clone_node deep n) → v.tree.made + size (original deep n v.tree.forest) ≤ 4294967295
+pub room-clone : (v : World) (deep : Bool) (n : ℕ) → HasNumbers v (clone_node deep n) → v.tree.made + size (original deep n v.tree.forest) ≤ 4294967295
 room-clone v deep n r =
     let e = ap (λ (f : Forest Content). size (original deep n f)) r.keeps.forest in
     let k = r.keeps.made in
@@ -159,7 +159,7 @@ module _ (v : World) (h : IsWhole v) (n : ℕ) (held : HasNode v.tree.forest n) 
   copied-as : (w : model.World) → Keeps v w → clone_with units n w ≡ made_node (node_document w n) top.label (with_data units top).body w
   copied-as w k = ap (λ (g : Forest Content). with_copies (node_document w n) (map_nodes (with_data units) g) w) (original-is w k)
 
-  pub room-copied : HasRoom v (clone_with units n) → v.tree.made < 4294967295
+  pub room-copied : HasNumbers v (clone_with units n) → v.tree.made < 4294967295
   room-copied r =
       let w = r.stands_for in
       let e = ap (λ (x : model.World). x.made) (copied-as w r.keeps) in
@@ -186,7 +186,7 @@ module _ (v : World) (moves : Bool) (into n offset count : ℕ) (units : List �
       ap (λ (us : List ℕ). cut_if moves n offset count (append w.made into (clone_with us n w))) e
       ∙ ap (λ (m : ℕ). cut_if moves n offset count (append m into (clone_with units n w))) k.made
 
-  pub room-units : HasRoom v (units_into moves into n offset count) → HasRoom v (clone_with units n)
+  pub room-units : HasNumbers v (units_into moves into n offset count) → HasNumbers v (clone_with units n)
   room-units r =
       room-before v (units_into moves into n offset count) (clone_with units n) (λ w. cut_if moves n offset count (append v.tree.made into w)) units-as
       (λ w. let a = append-grows v.tree.made into w in let b = cut-grows moves n offset count (append v.tree.made into w) in omega (arith, a, b)) r
@@ -205,7 +205,7 @@ substring-within offset count k xs e = ap (λ i. take i (drop offset xs)) (e ∙
 copied-child : (v : World) (into n : ℕ) (w : model.World) → Keeps v w → child_into false into n w ≡ append v.tree.made into (clone_node true n w)
 copied-child v into n w k = ap (λ (m : ℕ). append m into (clone_node true n w)) k.made
 
-pub room-child : (v : World) (into n : ℕ) → HasRoom v (child_into false into n) → HasRoom v (clone_node true n)
+pub room-child : (v : World) (into n : ℕ) → HasNumbers v (child_into false into n) → HasNumbers v (clone_node true n)
 room-child v into n r = room-before v (child_into false into n) (clone_node true n) (append v.tree.made into) (copied-child v into n) (append-grows v.tree.made into) r
 
 pub follows-child : (v mid new : World) (into n : ℕ) → Follows v mid (clone_node true n) → Follows mid new (append v.tree.made into) → Follows v new (child_into false into n)
@@ -217,10 +217,10 @@ pub record IsFilling (initial here : World) (moves : Bool) (into : ℕ) (nodes :
   pub whole : IsWhole here
   pub still : Stays initial here
   pub may : MayDraw here into (drop i nodes)
-  pub room : HasRoom here (children_into moves into (drop i nodes))
+  pub room : HasNumbers here (children_into moves into (drop i nodes))
   pub rest : (final : World) → Follows here final (children_into moves into (drop i nodes)) → Follows initial final (children_into moves into nodes)
 
-pub filling-first : (v : World) (moves : Bool) (into : ℕ) (nodes : List ℕ) → IsWhole v → MayDraw v into nodes → HasRoom v (children_into moves into nodes) → IsFilling v v moves into nodes 0
+pub filling-first : (v : World) (moves : Bool) (into : ℕ) (nodes : List ℕ) → IsWhole v → MayDraw v into nodes → HasNumbers v (children_into moves into nodes) → IsFilling v v moves into nodes 0
 filling-first v moves into nodes h d r = record { whole = h; still = stays-none v; may = d; room = r; rest = λ final f. f }
 
 module _ (initial here : World) (moves : Bool) (into : ℕ) (nodes : List ℕ) (i : ℕ) (t : IsFilling initial here moves into nodes i) where
@@ -231,7 +231,7 @@ module _ (initial here : World) (moves : Bool) (into : ℕ) (nodes : List ℕ) (
     step-is : (w : model.World) → Keeps here w → children_into moves into (drop i nodes) w ≡ children_into moves into (drop (i + 1) nodes) (child_into moves into x w)
     step-is w k = ap (λ (ns : List ℕ). children_into moves into ns w) listed
 
-    pub filling-room : HasRoom here (child_into moves into x)
+    pub filling-room : HasNumbers here (child_into moves into x)
     filling-room = room-before here (children_into moves into (drop i nodes)) (child_into moves into x) (children_into moves into (drop (i + 1) nodes)) step-is (children-grow moves into (drop (i + 1) nodes)) t.room
 
     these : AreOld t.may.low here.tree.forest (x ∷ drop (i + 1) nodes)

@@ -8,8 +8,8 @@ use Rattle.dom_model.proofs.BoundaryPoints.PointOrder.{nat_cmp-greater, order-on
 use Rattle.dom_model.proofs.TokenText.EditsMade.EditsOfDrawnContents.{sound-range}
 use Rattle.dom_ranges.specs.Tables.{range_in}
 use Rattle.dom_edit.specs.{declared.world.World.World, Whole.IsWhole, Whole.unwatched}
-use Rattle.dom_data.proofs.StaysWhole.{sound-unwatched}
-use Rattle.dom_content.specs.Texts.{part_of, text_within, texts_within}
+use Rattle.dom_data.proofs.IsWholeLemmas.{sound-unwatched}
+use Rattle.dom_content.specs.RangeTexts.{part_of, text_within, texts_within}
 use Rattle.dom_content.proofs.PartsBetween.{TellsContained}
 
 and-last : (a : Bool) → (a && false) ≡ false

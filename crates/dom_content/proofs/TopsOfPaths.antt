@@ -5,9 +5,9 @@ use Rattle.dom_model.specs.Definitions.{hits, past, up_to, HasNode, children_of,
 use Rattle.dom_model.specs.Worlds.World as model
 use Rattle.dom_model.proofs.Forests.{Climbing.hits-append, Climbing.hits-first, Entries.HasNode-occurs}
 use Rattle.dom_model.proofs.TokenText.Contents.TopsByParts.{tops-by_parts}
-use Rattle.dom_edit.specs.{declared.world.World.World, Inserting.AreThere, Whole.IsWhole, Whole.unwatched}
-use Rattle.dom_data.proofs.StaysWhole.{sound-unwatched}
-use Rattle.dom_content.specs.Drawing.{AreParts}
+use Rattle.dom_edit.specs.{declared.world.World.World, Insertion.AreThere, Whole.IsWhole, Whole.unwatched}
+use Rattle.dom_data.proofs.IsWholeLemmas.{sound-unwatched}
+use Rattle.dom_content.specs.DrawnParts.{AreParts}
 use Rattle.dom_content.proofs.PathLists.{listed, none-left}
 
 -- a node of the path is there

@@ -7,7 +7,7 @@ use Rattle.dom_model.proofs.Forests.{Climbing.hits-among, Climbing.hits-self, Cl
 use Rattle.dom_model.proofs.RangesAndContents.WaysBelow.{way-below}
 use Rattle.dom_model.proofs.Soundness.SoundForests.{data-childless}
 use Rattle.dom_model.proofs.TokenText.Contents.TextTold.{text-kind}
-use Rattle.dom_content.specs.Texts.{part_of, text_within}
+use Rattle.dom_content.specs.RangeTexts.{part_of, text_within}
 use Rattle.dom_content.proofs.{RangeTexts.texts-contained, ContainedBetween.within-contained, ContainedBetween.above-not_contained}
 
 -- a Text has no children, so that it is above no other node

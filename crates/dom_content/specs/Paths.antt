@@ -13,12 +13,12 @@ use Rattle.dom_model.specs.DataAndCopies.Clones.{clone_node}
 use Rattle.dom_model.specs.RangesAndContents.Contents.{new_fragment, children_into}
 use Rattle.dom_ranges.specs.Tables.{live_nodes}
 use Rattle.dom_edit.specs.declared.world.World.{World}
-use Rattle.dom_edit.specs.Leaving.{LeavesAll, AreNewer}
+use Rattle.dom_edit.specs.OlderNodes.{LeavesAll, AreNewer}
 use Rattle.dom_edit.specs.Whole.{IsWhole, Keeps, unwatched}
-use Rattle.dom_content.specs.declared.partial.Partial.{Partial}
+use Rattle.dom_content.specs.declared.partially_contained.Partial.{Partial}
 
 -- in a world that it keeps, no number is left beyond the last one when the step is done
-pub record HasRoom (v : World) (step : model.World → model.World) : Type 0 where
+pub record HasNumbers (v : World) (step : model.World → model.World) : Type 0 where
   pub stands_for : model.World
   pub keeps : Keeps v stands_for
   pub within : (step stands_for).made ≤ 4294967295
@@ -59,17 +59,17 @@ abbrev pub inner_of : ℕ → ℕ → model.World → ℕ
 inner_of into n w = (append w.made into (clone_node false n w)).made
 
 -- the same, and the children ahead of one go into the further fragment
-abbrev pub entered : Bool → ℕ → ℕ → ℕ → model.World → model.World
-entered moves into n next w = children_into moves (inner_of into n w) (up_to next (children_of w.forest n)) (opened into n w)
+abbrev pub path_entered : Bool → ℕ → ℕ → ℕ → model.World → model.World
+path_entered moves into n next w = children_into moves (inner_of into n w) (up_to next (children_of w.forest n)) (opened into n w)
 
 -- the children that are left go into the further fragment, and that goes into the copy
 abbrev pub closed_one : Bool → Partial → model.World → model.World
 closed_one moves p w = append p.inner p.copy (children_into moves p.inner p.children.items w)
 
 -- several, the last one first
-abbrev pub closed : Bool → List Partial → model.World → model.World
-closed moves [] w = w
-closed moves (p ∷ ps) w = closed_one moves p (closed moves ps w)
+abbrev pub closed_all : Bool → List Partial → model.World → model.World
+closed_all moves [] w = w
+closed_all moves (p ∷ ps) w = closed_one moves p (closed_all moves ps w)
 
 -- the numbers of copies that are not finished, and of the further fragments
 abbrev pub numbers_of_copies : List Partial → List ℕ

@@ -8,12 +8,12 @@ ghost use Rattle.dom_model.specs.Soundness.Sound.{IsRange};
 ghost use Rattle.dom_model.specs.RangesAndContents.Ranges.{is_before};
 ghost use Rattle.dom_model.specs.RangesAndContents.Contents.{contained_tops};
 ghost use Rattle.dom_model.specs.RangesAndContents.BesidePaths.{tail_nodes, head_nodes};
-ghost use Rattle.dom_edit.specs.Inserting.{AreThere};
+ghost use Rattle.dom_edit.specs.Insertion.{AreThere};
 ghost use Rattle.dom_edit.specs.Whole.{IsWhole, unwatched};
-ghost use Rattle.dom_content.specs.Drawing.{ArePartsOf};
+ghost use Rattle.dom_content.specs.DrawnParts.{ArePartsOf};
 
-use crate::children::{children_ahead, children_from, children_past, children_until};
-use crate::parts::Parts;
+use crate::child_slices::{children_ahead, children_from, children_past, children_until};
+use crate::range_parts::RangeParts;
 use dom_edit::{Content, World};
 use dom_point::Point;
 use dom_tree::{NodeId, Tree};
@@ -107,7 +107,7 @@ pub(crate) fn contained_tops(
     alloc: Global,
     start: Point,
     end: Point,
-    parts: &Parts,
+    parts: &RangeParts,
 ) -> Result<Vec<NodeId>, AllocError>
     requires whole { IsWhole world.now }
     requires range { IsRange world.now.tree.forest (record { start = start; end = end }) }

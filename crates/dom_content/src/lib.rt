@@ -1,17 +1,17 @@
 //! The contents of live ranges: their text, and how they are deleted, extracted and copied (DOM Standard, "Interface Range").
 #![tactic(auto)]
 
-mod children;
+mod child_slices;
 mod contained;
-mod data;
-mod deleting;
-mod drawing;
-mod partial;
-mod parts;
-mod pieces;
-mod texts;
-mod ways;
+mod content_pieces;
+mod deletion;
+mod end_paths;
+mod extraction;
+mod partially_contained;
+mod range_parts;
+mod same_data;
+mod stringification;
 
-pub use deleting::delete_contents;
-pub use drawing::{clone_contents, extract, extract_checked};
-pub use texts::range_text;
+pub use deletion::delete_contents;
+pub use extraction::{clone_contents, extract, extract_checked};
+pub use stringification::range_text;

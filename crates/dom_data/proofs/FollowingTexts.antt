@@ -5,9 +5,9 @@ use Rattle.dom_model.specs.declared.Kind.TheVariants.{Text}
 use Rattle.dom_model.specs.Definitions.{hits, after, head_of, past, list_under, siblings_in, Forest, Grove, IsForest, HasNode, entry_in, parent_of, next_of, Content, is_of_kind, content_in}
 use Rattle.dom_model.proofs.PlainLists.Numbers.{same_or, same, apart}
 use Rattle.dom_model.proofs.Forests.{Climbing.hits-append, Climbing.hits-first, Indices.child-once, PutBack.hits-after, PutBack.hits-head_of, Listed.front}
-use Rattle.dom_tree.proofs.Beside.{forward-step}
-use Rattle.dom_data.specs.Joining.{if_text, next_text, texts_behind, data_among}
-use Rattle.dom_data.proofs.Parting.{text-held}
+use Rattle.dom_tree.proofs.SiblingLemmas.{forward-step}
+use Rattle.dom_data.specs.JoinedTexts.{if_text, next_text, texts_behind, data_among}
+use Rattle.dom_data.proofs.TextHeldLemmas.{text-held}
 use Rattle.dom_model.proofs.Traversal.IteratorSteps.{past-end}
 
 -- What is past a number in a list.

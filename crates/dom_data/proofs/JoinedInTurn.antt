@@ -2,7 +2,7 @@
 use Rattle.std.proofs.Common.{◌≡◌, ℕ, ◌+◌, false, List, [], ◌∷◌, length, Option, Some, None, refl, ap, sym, ◌∙◌}
 use Rattle.dom_model.specs.Definitions.{parent_of, Observing, World, removed_from, remove, data_of, merged_ends, merge_ends, remove_each, AreJoinable}
 use Rattle.dom_model.proofs.Soundness.SoundJoining.{merged_is, in_either_order, joinable_left, left}
-use Rattle.dom_data.specs.Joining.{taken_in, each_taken_in}
+use Rattle.dom_data.specs.JoinedTexts.{taken_in, each_taken_in}
 
 -- all ends moved first, or one Text after another
 abbrev pub joined_at_once : ℕ → ℕ → List ℕ → World → World

@@ -7,9 +7,9 @@ use Rattle.dom_model.specs.Worlds.World as model
 use Rattle.dom_model.proofs.Forests.Entries.{occurs-HasNode}
 use Rattle.dom_model.proofs.Soundness.SoundNormalizing.{joinable}
 use Rattle.dom_edit.specs.{declared.world.World.World, Whole.IsWhole, Whole.Keeps, Whole.Follows, Whole.unwatched}
-use Rattle.dom_edit.proofs.Following.{follows-then, keeps-unwatched}
-use Rattle.dom_data.specs.Joining.{texts_behind, data_among, each_taken_in}
-use Rattle.dom_data.proofs.{Parting.text-held, StaysWhole.sound-unwatched, StaysWhole.follows-alike, JoinedInTurn.joined_at_once, JoinedInTurn.watched_by, JoinedInTurn.in_turn, TakenIn.joinable-kept}
+use Rattle.dom_edit.proofs.FollowsLemmas.{follows-then, keeps-unwatched}
+use Rattle.dom_data.specs.JoinedTexts.{texts_behind, data_among, each_taken_in}
+use Rattle.dom_data.proofs.{TextHeldLemmas.text-held, IsWholeLemmas.sound-unwatched, IsWholeLemmas.follows-alike, JoinedInTurn.joined_at_once, JoinedInTurn.watched_by, JoinedInTurn.in_turn, TakenInLemmas.joinable-kept}
 
 -- Units behind the last one.
 

@@ -5,7 +5,7 @@ use Rattle.dom_model.specs.Definitions.{Entry, Node, Forest, HasNode, entry_in, 
 use Rattle.dom_model.proofs.Forests.Totals.{IsOnce}
 use Rattle.dom_model.proofs.Worlds.SameShape.{with_node-alike, occurs-alike}
 use Rattle.dom_data.specs.Tails.{tail_in}
-use Rattle.dom_data.proofs.{ChangedBodies.with_node-agree, ChangedBodies.data-written, ChangedBodies.content-read, LabelsKept.tag-with_data}
+use Rattle.dom_data.proofs.{ChangedBodies.with_node-agree, ChangedBodies.data-written, ChangedBodies.content-read, KeepsNumbersLemmas.tag-with_data}
 
 drop-past : (count : ℕ) (units : List ℕ) → length units ≤ count → drop count units ≡ []
 drop-past count units h = empty (drop count units) (let l = length-drop count units in omega arith)

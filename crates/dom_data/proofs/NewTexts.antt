@@ -7,8 +7,8 @@ use Rattle.dom_model.proofs.Forests.Entries.{occurs-HasNode, HasNode-occurs}
 use Rattle.dom_model.proofs.Worlds.Measured.{kind-beside}
 use Rattle.dom_model.proofs.Soundness.SoundTextContent.{made-there, made-old, made-insertable}
 use Rattle.dom_edit.specs.{declared.world.World.World, Whole.IsWhole, Whole.Follows, Whole.unwatched}
-use Rattle.dom_edit.proofs.{Following.follows-then, Following.keeps-unwatched, Unrefused.unrefused}
-use Rattle.dom_data.proofs.StaysWhole.{sound-unwatched, follows-alike}
+use Rattle.dom_edit.proofs.{FollowsLemmas.follows-then, FollowsLemmas.keeps-unwatched, IsInsertableLemmas.unrefused}
+use Rattle.dom_data.proofs.IsWholeLemmas.{sound-unwatched, follows-alike}
 
 -- The world with the new Text.
 module _ (old new : World) (h : IsWhole old) (document : ℕ) (text : List ℕ) (f : Follows old new (made_node document (named Text []) (with_text text))) where

@@ -8,7 +8,7 @@ use Rattle.dom_model.proofs.Forests.{Changes.link_at, Changes.change_at, Entries
 use Rattle.dom_model.proofs.Worlds.{SameShape.IsAlike, SameShape.with_node-alike, SameShape.ancestors-alike, SameShape.parent-alike, SameShape.children-alike, SameShape.kind-alike, SameShape.index-alike, Measured.entry-with_node, Measured.unplaced, Measured.unplaced_entry, Measured.entry-unplaced, Measured.adopted-unplaced}
 use Rattle.dom_model.proofs.Soundness.SoundSplitting.{insert-root}
 use Rattle.dom_model.proofs.TokenText.Marked.MarkedSplice.{with_node-absent}
-use Rattle.dom_data.specs.Turns.{put_behind, tail_moved, split_in_turn}
+use Rattle.dom_data.specs.SplitInTurn.{put_behind, tail_moved, split_in_turn}
 use Rattle.dom_model.proofs.MutationAlgorithms.Extending.{gap-forest}
 
 -- A change of the nodes of one number, beside the steps on forests.

@@ -8,11 +8,11 @@ use Rattle.dom_model.proofs.Worlds.{Measured.entry-beside, SameShape.IsAlike, Sa
 use Rattle.dom_model.proofs.RangesAndContents.RangesSpliced.{there-alike}
 use Rattle.dom_model.proofs.Soundness.{SoundSplitting.sound-split, SoundTextContent.entry-made, SoundWorlds.statics-kept}
 use Rattle.dom_ranges.specs.Tables.{RangeTable}
-use Rattle.dom_observe.proofs.HeldNames.{held-kept}
-use Rattle.dom_edit.specs.{declared.world.World.World, Keeping.present, Keeping.KeepsLabels, Keeping.KeepsNodes, Keeping.attributes_at, Whole.AreCovered, Whole.IsWhole, Whole.Keeps, Whole.Follows, Whole.unwatched}
-use Rattle.dom_edit.proofs.{Covering.covered-kept, Following.follows-then, Following.keeps-unwatched, Following.whole-sound, WatchersKept.present-moved, WatchersKept.watchers-ranged}
-use Rattle.dom_data.specs.{Tails.HasRoom, Tails.tail_in, Turns.put_behind, Turns.ends_behind, Turns.tail_moved, Turns.split_in_turn}
-use Rattle.dom_data.proofs.{LabelsKept.numbers-replaced, LabelsKept.numbers-then, NewTexts.made_is, NewTexts.new-there, NewTexts.old-there, Parting.text-held, SplitInTurn.split-in-turn, StaysWhole.documents-with_node, StaysWhole.owners-with_node, StaysWhole.sound-unwatched, StaysWhole.follows-alike}
+use Rattle.dom_observe.proofs.NamesHeldLemmas.{held-kept}
+use Rattle.dom_edit.specs.{declared.world.World.World, KeptNodes.present, KeptNodes.KeepsLabels, KeptNodes.KeepsNodes, KeptNodes.attributes_at, Whole.CoversHeld, Whole.IsWhole, Whole.Keeps, Whole.Follows, Whole.unwatched}
+use Rattle.dom_edit.proofs.{CoversHeldLemmas.covered-kept, FollowsLemmas.follows-then, FollowsLemmas.keeps-unwatched, FollowsLemmas.whole-sound, KeepsWatchersLemmas.present-moved, KeepsWatchersLemmas.watchers-ranged}
+use Rattle.dom_data.specs.{Tails.HasNextSibling, Tails.tail_in, SplitInTurn.put_behind, SplitInTurn.ends_behind, SplitInTurn.tail_moved, SplitInTurn.split_in_turn}
+use Rattle.dom_data.proofs.{KeepsNumbersLemmas.numbers-replaced, KeepsNumbersLemmas.numbers-then, NewTexts.made_is, NewTexts.new-there, NewTexts.old-there, TextHeldLemmas.text-held, SplitInTurn.split-in-turn, IsWholeLemmas.documents-with_node, IsWholeLemmas.owners-with_node, IsWholeLemmas.sound-unwatched, IsWholeLemmas.follows-alike}
 
 -- where no end stands in the parent, the index matters to none
 pub split-apart : (n offset new parent i j : ℕ) (q : Point) → (q.node == parent) ≡ false → after_split n offset new parent i q ≡ after_split n offset new parent j q
@@ -60,16 +60,16 @@ module _ (told : World) (n offset id : ℕ) where
     pub held-moved : (m : ℕ) → HasNode told.tree.forest m → HasNode tree.forest m
     held-moved m h = subst (λ f. HasNode f m) forest_is (there-alike alike m h)
 
-    pub room-moved : HasRoom told.tree.forest n → HasRoom tree.forest n
-    room-moved h = subst (λ f. HasRoom f n) forest_is (subst (λ p. IfSome p (λ q. index_of moved n + 2 ≤ length (children_of moved q))) (sym (parent-alike alike n)) (go (parent_of told.tree.forest n) h))
+    pub room-moved : HasNextSibling told.tree.forest n → HasNextSibling tree.forest n
+    room-moved h = subst (λ f. HasNextSibling f n) forest_is (subst (λ p. IfSome p (λ q. index_of moved n + 2 ≤ length (children_of moved q))) (sym (parent-alike alike n)) (go (parent_of told.tree.forest n) h))
       where
         go : (p : Option ℕ) → IfSome p (λ q. index_of told.tree.forest n + 2 ≤ length (children_of told.tree.forest q)) → IfSome p (λ q. index_of moved n + 2 ≤ length (children_of moved q))
         go None k = tt
         go (Some q) k = let i = index-alike alike n in let e = ap length (children-alike alike q) in omega arith
 
-    pub covered-moved : AreCovered told.tree told.ranges.covered → AreCovered tree told.ranges.covered
+    pub covered-moved : CoversHeld told.tree told.ranges.covered → CoversHeld tree told.ranges.covered
     covered-moved h =
-        subst (λ g. AreCovered g told.ranges.covered) (sym tree_is)
+        subst (λ g. CoversHeld g told.ranges.covered) (sym tree_is)
         (covered-kept told.tree (record told.tree { forest = moved }) told.ranges.covered (λ m. let e = occurs-alike alike m in omega arith) refl h)
 
   -- ends that moved, and then those behind the offset that nothing came for

@@ -8,9 +8,9 @@ use Rattle.dom_model.proofs.Forests.{Changes.seen, Changes.nothing, Changes.just
 use Rattle.dom_model.proofs.BoundaryPoints.SplitOrder.{inside-childless}
 use Rattle.dom_model.proofs.Worlds.{SameShape.IsAlike, SameShape.inside-alike, SameShape.parent-alike, SameShape.kind-alike, SameShape.with_node-alike, Measured.kind-cut}
 use Rattle.dom_model.proofs.Soundness.{SoundForests.IsWood, SoundForests.data-childless, SoundForests.IsWood-alike, SoundForests.IsWood-cut, SoundSplitting.text_has_data, SoundNormalizing.SameKinds, SoundNormalizing.joinable, SoundNormalizing.below_parent, SoundNormalizing.numbers-first}
-use Rattle.dom_traverse.proofs.Descendants.{among-inside}
-use Rattle.dom_data.specs.Joining.{is_told_by_parent}
-use Rattle.dom_data.proofs.{Parting.text-held, JoinedInTurn.without_ranges, JoinedInTurn.merges-bare}
+use Rattle.dom_traverse.proofs.DescendantLemmas.{among-inside}
+use Rattle.dom_data.specs.JoinedTexts.{is_told_by_parent}
+use Rattle.dom_data.proofs.{TextHeldLemmas.text-held, JoinedInTurn.without_ranges, JoinedInTurn.merges-bare}
 
 -- A node below another.
 

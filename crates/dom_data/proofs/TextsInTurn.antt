@@ -6,9 +6,9 @@ use Rattle.dom_model.specs.Definitions.{hits, among, is_kind, Forest, parent_of,
 use Rattle.dom_model.specs.Worlds.World as model
 use Rattle.dom_model.proofs.Forests.Climbing.{hits-append, hits-first}
 use Rattle.dom_edit.specs.{declared.world.World.World, Whole.IsWhole, Whole.Keeps, Whole.Follows, Whole.unwatched}
-use Rattle.dom_edit.proofs.Following.{follows-none, follows-then, keeps-unwatched}
-use Rattle.dom_data.specs.Joining.{is_told_by_parent}
-use Rattle.dom_data.proofs.{StaysWhole.sound-unwatched, StaysWhole.follows-alike, StillBelow.left-one}
+use Rattle.dom_edit.proofs.FollowsLemmas.{follows-none, follows-then, keeps-unwatched}
+use Rattle.dom_data.specs.JoinedTexts.{is_told_by_parent}
+use Rattle.dom_data.proofs.{IsWholeLemmas.sound-unwatched, IsWholeLemmas.follows-alike, StillBelow.left-one}
 
 -- Steps that a test picks.
 

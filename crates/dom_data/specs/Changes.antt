@@ -21,7 +21,7 @@ change_of what target name value = record {
 }
 
 -- the change is noted, with the registrations that stand
-abbrev pub Tells : RecordType → ℕ → Option (List ℕ) → Option (List ℕ) → Forest Content → Watchers → Watchers → Type 0
-Tells what target name value f old new =
+abbrev pub QueuesMutation : RecordType → ℕ → Option (List ℕ) → Option (List ℕ) → Forest Content → Watchers → Watchers → Type 0
+QueuesMutation what target name value f old new =
     (x : Observing) → Watches old x → Watches new
     (noted (record (change_of what target name value) { standing = standing_on (ancestors target f) x.registrations }) x)

@@ -1,9 +1,9 @@
-pub mod Reading
-pub mod Keeping
+pub mod SubstringRefusal
+pub mod KeptNumbers
 pub mod Changes
-pub mod Gathering
+pub mod GatheredData
 pub mod TextContent
 pub mod Tails
-pub mod Turns
+pub mod SplitInTurn
 pub mod TextsAlone
-pub mod Joining
+pub mod JoinedTexts

@@ -22,8 +22,8 @@ pub record IsTail (v : World) (n new : ℕ) : Type 0 where
   pub keeps : Keeps v (made_node (node_document before n) (named Text []) (with_text []) before)
 
 -- where a node has a parent, another child comes after it
-abbrev pub HasRoom : Forest Content → ℕ → Type 0
-HasRoom f n = IfSome (parent_of f n) (λ p. index_of f n + 2 ≤ length (children_of f p))
+abbrev pub HasNextSibling : Forest Content → ℕ → Type 0
+HasNextSibling f n = IfSome (parent_of f n) (λ p. index_of f n + 2 ≤ length (children_of f p))
 
 -- what is beyond an offset goes from a node's data into another's
 abbrev pub tail_in : ℕ → ℕ → ℕ → Forest Content → Forest Content

@@ -4,11 +4,11 @@ ghost use Rattle.std.specs.Prelude.{◌≡◌, true, string_bytes, IfOk, OnOk, O
 ghost use Rattle.dom_model.specs.declared.Kind.TheVariants.{Element};
 ghost use Rattle.dom_model.specs.Forests.Nodes.{is_of_kind};
 ghost use Rattle.dom_model.specs.DataAndCopies.Data.{set_attribute, remove_attribute, toggle_attribute, has_attribute, is_toggled_on};
-ghost use Rattle.dom_observe.specs.Held.{SameObservers};
+ghost use Rattle.dom_observe.specs.ObservedNodes.{SameObservers};
 ghost use Rattle.dom_edit.specs.Whole.{IsWhole, Follows, unwatched};
 
 use crate::bodies::{has_in, remove_in, set_in};
-use crate::records::tell_attribute;
+use crate::records::queue_attribute_record;
 use dom_edit::World;
 use dom_tree::NodeId;
 use dom_units::Units;
@@ -32,7 +32,7 @@ pub fn set_attribute(
     ensures observers { SameObservers world.old.observers world.new.observers }
     ensures whole { IsWhole world.new }
 {
-    tell_attribute(world, node, name.as_str())?;
+    queue_attribute_record(world, node, name.as_str())?;
     set_in(&mut world.tree, alloc, node, name, value)
 }
 
@@ -48,7 +48,7 @@ pub fn remove_attribute(world: &mut World, node: NodeId, name: &str) -> Result<(
     if !has_in(&world.tree, node, name) {
         return Ok(());
     }
-    tell_attribute(world, node, name)?;
+    queue_attribute_record(world, node, name)?;
     remove_in(&mut world.tree, node, name);
     Ok(())
 }

@@ -4,15 +4,15 @@
 
 mod attributes;
 mod bodies;
-mod contents;
-mod making;
-mod normalizing;
+mod character_data;
+mod new_text;
+mod normalization;
 mod records;
-mod replacing;
-mod splitting;
+mod split_text;
+mod text_contents;
 
 pub use attributes::{remove_attribute, set_attribute, toggle_attribute};
-pub use contents::{set_text_content, text_content};
-pub use normalizing::normalize;
-pub use replacing::{replace_data, replace_data_checked, set_data, substring};
-pub use splitting::{split, split_checked};
+pub use text_contents::{set_text_content, text_content};
+pub use normalization::normalize;
+pub use character_data::{replace_data, replace_data_checked, set_data, substring};
+pub use split_text::{split, split_checked};

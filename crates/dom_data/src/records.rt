@@ -5,7 +5,7 @@ ghost use Rattle.dom_model.specs.declared.RecordType.TheVariants.{Attributes};
 ghost use Rattle.dom_model.specs.Forests.Attributes.{attribute_value};
 ghost use Rattle.dom_model.specs.Forests.Forest.{HasNode, entry_in};
 ghost use Rattle.dom_model.specs.DataAndCopies.Data.{content_in, data_record, attribute_record};
-ghost use Rattle.dom_observe.specs.Held.{SameObservers};
+ghost use Rattle.dom_observe.specs.ObservedNodes.{SameObservers};
 ghost use Rattle.dom_edit.specs.Whole.{IsWhole, Follows};
 ghost use Rattle.dom_data.specs.Changes.{change_of};
 
@@ -17,7 +17,7 @@ use dom_tree::{NodeId, Tree};
 use std::alloc::AllocError;
 
 // Queues a record of a node's data, which is about to change, for each interested observer, in the observers' own memory.
-pub(crate) fn tell_data(world: &mut World, node: NodeId) -> Result<(), AllocError>
+pub(crate) fn queue_data_record(world: &mut World, node: NodeId) -> Result<(), AllocError>
     requires whole { IsWhole world.old }
     requires held { HasNode world.old.tree.forest node }
     ensures told { OnOk result (Follows world.old world.new (data_record node)) }
@@ -35,7 +35,7 @@ pub(crate) fn tell_data(world: &mut World, node: NodeId) -> Result<(), AllocErro
         name: None,
         old_value: Some(data_in(&world.tree, node)),
     };
-    world.observers.queue(&world.tree, &mutation)
+    world.observers.queue_record(&world.tree, &mutation)
 }
 
 // Returns the mutation of an attribute, with its present value.
@@ -58,7 +58,7 @@ fn attribute_change<'a>(tree: &'a Tree<Content>, node: NodeId, name: &'a str) ->
 }
 
 // Queues a record of an attribute, which is about to change, for each interested observer, in the observers' own memory.
-pub(crate) fn tell_attribute(world: &mut World, node: NodeId, name: &str) -> Result<(), AllocError>
+pub(crate) fn queue_attribute_record(world: &mut World, node: NodeId, name: &str) -> Result<(), AllocError>
     requires whole { IsWhole world.old }
     requires held { HasNode world.old.tree.forest node }
     ensures told { OnOk result (Follows world.old world.new (attribute_record node name.now)) }
@@ -67,5 +67,5 @@ pub(crate) fn tell_attribute(world: &mut World, node: NodeId, name: &str) -> Res
     ensures whole { IsWhole world.new }
 {
     let mutation = attribute_change(&world.tree, node, name);
-    world.observers.queue(&world.tree, &mutation)
+    world.observers.queue_record(&world.tree, &mutation)
 }

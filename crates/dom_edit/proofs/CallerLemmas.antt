@@ -5,8 +5,8 @@ use Rattle.dom_model.specs.Definitions.{hits, Label, Forest, HasNode, entry_in, 
 use Rattle.dom_model.proofs.Forests.Entries.{occurs-HasNode, HasNode-occurs}
 use Rattle.dom_model.proofs.MutationAlgorithms.Extending.{Extends, extends-beside, extends-remove, put_by_insert}
 use Rattle.dom_model.proofs.Soundness.{SoundEditing.may_come_in, SoundTextContent.entry-made, SoundTextContent.made-there}
-use Rattle.dom_edit.specs.{declared.world.World.World, Whole.IsWhole, Whole.Follows, Whole.unwatched, Keeping.KeepsWatchers, Keeping.KeepsLabels}
-use Rattle.dom_edit.proofs.{Following.sound-unwatched, InsertedNodes.forest-after, InsertedNodes.statics-after, InsertedNodes.walkers-after}
+use Rattle.dom_edit.specs.{declared.world.World.World, Whole.IsWhole, Whole.Follows, Whole.unwatched, KeptNodes.KeepsWatchers, KeptNodes.KeepsLabels}
+use Rattle.dom_edit.proofs.{FollowsLemmas.sound-unwatched, InsertLemmas.forest-after, InsertLemmas.statics-after, InsertLemmas.walkers-after}
 
 -- The forest after a call extends the one before it, but for the parents of the nodes that move.
 

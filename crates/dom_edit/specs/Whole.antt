@@ -9,12 +9,12 @@ use Rattle.dom_model.specs.Soundness.Sound.{IsRange, IsIterator, IsWalker, IsSou
 pub use Rattle.dom_model.specs.Soundness.Sound.{AreHeld}
 use Rattle.dom_model.specs.Soundness.Owners.{HasOwners}
 use Rattle.dom_ranges.specs.Tables.{covers, covered_to}
-use Rattle.dom_observe.specs.Held.{NamesHeld}
+use Rattle.dom_observe.specs.ObservedNodes.{NamesHeld}
 use Rattle.dom_observe.specs.Watchers.{Watches}
 use Rattle.dom_edit.specs.declared.world.World.{World}
 
 -- each held node is covered, and of the numbers that are still to be given out none was forgotten
-pub record AreCovered (g : Grove Content) (covered : List Bool) : Type 0 where
+pub record CoversHeld (g : Grove Content) (covered : List Bool) : Type 0 where
   pub held : (n : ℕ) → HasNode g.forest n → covers covered n ≡ true
   pub ahead : (n : ℕ) → g.made ≤ n → n < length covered → covers covered n ≡ true
 
@@ -23,7 +23,7 @@ pub record IsWhole (v : World) : Type 0 where
   pub forest : IsForest v.tree
   pub documents : HasOneDocument v.tree.forest
   pub owners : HasOwners v.tree.forest
-  pub covered : AreCovered v.tree v.ranges.covered
+  pub covered : CoversHeld v.tree v.ranges.covered
   pub ranges : All (λ (r : Option Range). IfSome r (IsRange v.tree.forest)) v.ranges.ranges
   pub statics : All (λ (r : Option Range). IfSome r (AreHeld v.tree.forest)) v.statics
   pub iterators : All (λ (i : Option Iterator). IfSome i (IsIterator v.tree.forest)) v.iterators

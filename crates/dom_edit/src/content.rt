@@ -6,7 +6,7 @@ ghost use Rattle.dom_model.specs.Forests.Attributes.{attribute_value, attribute_
 ghost use Rattle.dom_model.specs.Forests.Texts.{spliced};
 ghost use Rattle.dom_model.specs.Commands.Answer.{with_text};
 ghost use Rattle.dom_attrs.specs.Entries.{attribute_at};
-ghost use Rattle.dom_edit.specs.Contents.{text_in, attributes_in};
+ghost use Rattle.dom_edit.specs.Payloads.{payload_text, attributes_in};
 
 use crate::tail::Tail;
 use dom_attrs::Attrs;
@@ -25,7 +25,7 @@ struct Parts {
 
 // Data or attributes. No node has both, so both are stored in a block of their own, and most nodes stay small.
 #[derive(Drop)]
-enum Held {
+enum Payload {
     Nothing,
     Data(Units),
     Tail(Box<Tail>),
@@ -33,49 +33,49 @@ enum Held {
     Both(Box<Parts>),
 }
 
-impl Held {
+impl Payload {
     // Returns data alone, if there is any.
-    fn data(text: Units) -> Held
-        ensures text { text_in result ≡ text }
+    fn data(text: Units) -> Payload
+        ensures text { payload_text result ≡ text }
         ensures attributes { attributes_in result ≡ [] }
     {
         if text.is_empty() {
-            return Held::Nothing;
+            return Payload::Nothing;
         }
-        Held::Data(text)
+        Payload::Data(text)
     }
 
     // Returns the tail of a split text, unless it is empty.
-    fn tail(tail: Box<Tail>) -> Held
-        ensures text { text_in result ≡ tail.value }
+    fn tail(tail: Box<Tail>) -> Payload
+        ensures text { payload_text result ≡ tail.value }
         ensures attributes { attributes_in result ≡ [] }
     {
         if tail.is_empty() {
-            return Held::Nothing;
+            return Payload::Nothing;
         }
-        Held::Tail(tail)
+        Payload::Tail(tail)
     }
 
     // Returns attributes alone, if there are any.
-    fn attributes(attrs: Attrs) -> Held
-        ensures text { text_in result ≡ [] }
+    fn attributes(attrs: Attrs) -> Payload
+        ensures text { payload_text result ≡ [] }
         ensures attributes { attributes_in result ≡ attrs }
     {
         if attrs.is_empty() {
-            return Held::Nothing;
+            return Payload::Nothing;
         }
-        Held::Attributes(attrs)
+        Payload::Attributes(attrs)
     }
 
     // Returns both, without empty ones, which are freed.
-    fn both(parts: Box<Parts>) -> Held
-        ensures text { text_in result ≡ parts.value.text }
+    fn both(parts: Box<Parts>) -> Payload
+        ensures text { payload_text result ≡ parts.value.text }
         ensures attributes { attributes_in result ≡ parts.value.attrs }
     {
         if parts.text.is_empty() && parts.attrs.is_empty() {
-            return Held::Nothing;
+            return Payload::Nothing;
         }
-        Held::Both(parts)
+        Payload::Both(parts)
     }
 }
 
@@ -86,16 +86,16 @@ impl Held {
 /// Kinds without data have an empty text. Kinds other than Element have no attributes.
 #[derive(Drop)]
 pub struct Content {
-    held: Held,
+    held: Payload,
 }
 
 impl Model for Content {
     ghost use Rattle.dom_model.specs.Worlds.World.{Content};
-    ghost use Rattle.dom_edit.specs.Contents.{text_in, attributes_in};
+    ghost use Rattle.dom_edit.specs.Payloads.{payload_text, attributes_in};
 
     ghost Value = { Content };
 
-    ghost view = { λ c. record { text = text_in c.held; attributes = attributes_in c.held } };
+    ghost view = { λ c. record { text = payload_text c.held; attributes = attributes_in c.held } };
 }
 
 impl Content {
@@ -104,7 +104,7 @@ impl Content {
         ensures { result ≡ with_text [] }
     {
         Content {
-            held: Held::Nothing,
+            held: Payload::Nothing,
         }
     }
 
@@ -114,17 +114,17 @@ impl Content {
     {
         if attrs.is_empty() {
             return Ok(Content {
-                held: Held::data(text),
+                held: Payload::data(text),
             });
         }
         if text.is_empty() {
             return Ok(Content {
-                held: Held::Attributes(attrs),
+                held: Payload::Attributes(attrs),
             });
         }
         let parts = Box::new(alloc, Parts { text, attrs })?;
         Ok(Content {
-            held: Held::Both(parts),
+            held: Payload::Both(parts),
         })
     }
 
@@ -140,26 +140,26 @@ impl Content {
         ensures { IfOk result (λ copy. copy ≡ self.now) }
     {
         match &self.held {
-            Held::Nothing => Ok(Content::nothing()),
-            Held::Data(text) => {
+            Payload::Nothing => Ok(Content::nothing()),
+            Payload::Data(text) => {
                 let text = text.try_clone(alloc)?;
                 Ok(Content {
-                    held: Held::Data(text),
+                    held: Payload::Data(text),
                 })
             }
-            Held::Tail(tail) => {
+            Payload::Tail(tail) => {
                 let text = Units::from_units(alloc, tail.units())?;
                 Ok(Content {
-                    held: Held::data(text),
+                    held: Payload::data(text),
                 })
             }
-            Held::Attributes(attrs) => {
+            Payload::Attributes(attrs) => {
                 let attrs = attrs.try_clone(alloc)?;
                 Ok(Content {
-                    held: Held::Attributes(attrs),
+                    held: Payload::Attributes(attrs),
                 })
             }
-            Held::Both(parts) => {
+            Payload::Both(parts) => {
                 let text = parts.text.try_clone(alloc)?;
                 let attrs = parts.attrs.try_clone(alloc)?;
                 Content::new(alloc, text, attrs)
@@ -182,9 +182,9 @@ impl Content {
         ensures { unwrap_or (option_copied result) [] ≡ self.now.attributes }
     {
         match &self.held {
-            Held::Nothing | Held::Data(_) | Held::Tail(_) => None,
-            Held::Attributes(attrs) => Some(attrs),
-            Held::Both(parts) => Some(&parts.attrs),
+            Payload::Nothing | Payload::Data(_) | Payload::Tail(_) => None,
+            Payload::Attributes(attrs) => Some(attrs),
+            Payload::Both(parts) => Some(&parts.attrs),
         }
     }
 
@@ -193,10 +193,10 @@ impl Content {
         ensures { result.now ≡ self.now.text }
     {
         match &self.held {
-            Held::Nothing | Held::Attributes(_) => &[],
-            Held::Data(text) => text.units(),
-            Held::Tail(tail) => tail.units(),
-            Held::Both(parts) => parts.text.units(),
+            Payload::Nothing | Payload::Attributes(_) => &[],
+            Payload::Data(text) => text.units(),
+            Payload::Tail(tail) => tail.units(),
+            Payload::Both(parts) => parts.text.units(),
         }
     }
 
@@ -270,12 +270,12 @@ impl Content {
             { text = spliced at count added.now self.old.text }) }
         ensures err { OnErr result (self.new ≡ self.old) }
     {
-        let mut text = match mem::replace(&mut self.held, Held::Nothing) {
-            Held::Nothing => Units::new(alloc),
-            Held::Data(text) => text,
-            Held::Tail(mut tail) => {
+        let mut text = match mem::replace(&mut self.held, Payload::Nothing) {
+            Payload::Nothing => Units::new(alloc),
+            Payload::Data(text) => text,
+            Payload::Tail(mut tail) => {
                 let outcome = tail.splice(at, count, added);
-                self.held = Held::tail(tail);
+                self.held = Payload::tail(tail);
                 return outcome;
             }
             held => {
@@ -284,7 +284,7 @@ impl Content {
             }
         };
         let outcome = text.splice(at, count, added);
-        self.held = Held::data(text);
+        self.held = Payload::data(text);
         outcome
     }
 
@@ -338,10 +338,10 @@ impl Content {
     {
         let head = Units::from_units(alloc, units_within(self.text(), 0, at))?;
         let mut tail = self.take_data(alloc)?;
-        self.held = Held::data(head);
+        self.held = Payload::data(head);
         tail.pass(at);
         Ok(Content {
-            held: Held::tail(tail),
+            held: Payload::tail(tail),
         })
     }
 
@@ -350,11 +350,11 @@ impl Content {
         ensures taken { IfOk result (λ tail. tail.value ≡ self.old.text) }
         ensures err { OnErr result (self.new ≡ self.old) }
     {
-        match mem::replace(&mut self.held, Held::Nothing) {
-            Held::Tail(tail) => Ok(tail),
-            Held::Data(text) => {
+        match mem::replace(&mut self.held, Payload::Nothing) {
+            Payload::Tail(tail) => Ok(tail),
+            Payload::Data(text) => {
                 let Ok(mut tail) = Box::new(alloc, Tail::new(alloc)) else {
-                    self.held = Held::Data(text);
+                    self.held = Payload::Data(text);
                     return Err(AllocError);
                 };
                 *tail = Tail::of(text);
@@ -382,16 +382,16 @@ impl Content {
             { attributes = with_attribute (string_bytes name) value self.old.attributes }) }
         ensures err { OnErr result (self.new ≡ self.old) }
     {
-        let mut attrs = match mem::replace(&mut self.held, Held::Nothing) {
-            Held::Nothing => Attrs::new(alloc),
-            Held::Attributes(attrs) => attrs,
+        let mut attrs = match mem::replace(&mut self.held, Payload::Nothing) {
+            Payload::Nothing => Attrs::new(alloc),
+            Payload::Attributes(attrs) => attrs,
             held => {
                 self.held = held;
                 return self.set_in_copy(alloc, name, value);
             }
         };
         let outcome = attrs.set(name, value);
-        self.held = Held::attributes(attrs);
+        self.held = Payload::attributes(attrs);
         outcome
     }
 
@@ -425,15 +425,15 @@ impl Content {
               self.old.attributes;
         } }
     {
-        match mem::replace(&mut self.held, Held::Nothing) {
-            Held::Attributes(mut attrs) => {
+        match mem::replace(&mut self.held, Payload::Nothing) {
+            Payload::Attributes(mut attrs) => {
                 let value = attrs.remove(name);
-                self.held = Held::attributes(attrs);
+                self.held = Payload::attributes(attrs);
                 value
             }
-            Held::Both(mut parts) => {
+            Payload::Both(mut parts) => {
                 let value = parts.attrs.remove(name);
-                self.held = Held::both(parts);
+                self.held = Payload::both(parts);
                 value
             }
             held => {

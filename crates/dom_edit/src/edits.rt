@@ -13,18 +13,18 @@ ghost use Rattle.dom_model.specs.Forests.Nodes.{is_of_kind, kind_passes};
 ghost use Rattle.dom_model.specs.MutationAlgorithms.Editing.{remove, insert, pre_insert, append, replace, replace_all, adopt};
 ghost use Rattle.dom_model.specs.MutationAlgorithms.Insertable.{IsInsertable};
 ghost use Rattle.dom_model.specs.TokenText.Edits.{insert_edits, pre_insert_edits, append_edits, replace_edits, remove_edits, replace_all_edits, adopt_edits};
-ghost use Rattle.dom_edit.specs.Inserting.{IsUnreferred, HasMoreToAsk};
+ghost use Rattle.dom_edit.specs.Insertion.{IsUnreferred, HasMoreToAsk};
 ghost use Rattle.dom_edit.specs.Whole.{IsWhole, Follows, Moves};
-ghost use Rattle.dom_edit.specs.Keeping.{KeepsNodes};
-ghost use Rattle.dom_edit.specs.Leaving.{LeavesOlder, IsFragmentOrRoot};
+ghost use Rattle.dom_edit.specs.KeptNodes.{KeepsNodes};
+ghost use Rattle.dom_edit.specs.OlderNodes.{LeavesOlder, IsFragmentOrRoot};
 ghost use Rattle.dom_edit.specs.Markers.{StandByEdits};
 ghost use Rattle.dom_edit.specs.Refusals.{check_remove_child, check_only_child, check_adopt, IsRefused};
 
-use crate::checks::{check_insert, check_replace};
-use crate::inserting::{children, entering};
-use crate::questions::reference_child;
+use crate::pre_insertion::{check_insert, check_replace};
+use crate::insertion::{children, entering};
+use crate::queries::reference_child;
 use crate::refusal::Refusal;
-use crate::replacing::{check_only_child, entering_if_any, nodes_if_any};
+use crate::replacement::{check_only_child, entering_if_any, nodes_if_any};
 use crate::world::World;
 use dom_kinds::{DomError, Kind};
 use dom_tree::NodeId;
@@ -56,7 +56,7 @@ impl World {
     {
         // the checker covers no variable of this type that is passed by value twice
         let asked = child;
-        self.make_order_known(parent, node, asked);
+        self.cache_check(parent, node, asked);
         self.check_and_insert(alloc, parent, node, child)
     }
 
@@ -227,7 +227,7 @@ impl World {
         ensures kept { KeepsNodes self.old self.new }
         ensures whole { IsWhole self.new }
     {
-        self.make_order_known(parent, node, Some(child));
+        self.cache_check(parent, node, Some(child));
         self.check_and_replace(alloc, parent, node, child)
     }
 

@@ -1,24 +1,24 @@
 //! The world of a session, and its edits (DOM Standard, "Mutation algorithms").
 #![tactic(auto)]
 
-mod checks;
+mod check_cache;
 mod content;
-mod discarding;
+mod discard;
 mod edits;
-mod inserting;
-mod ordering;
-mod putting;
-mod questions;
-mod records;
+mod insertion;
+mod insertion_point;
+mod pre_insertion;
+mod queries;
 mod refusal;
-mod removing;
-mod replacing;
-mod surroundings;
+mod removal;
+mod replacement;
+mod root_insertion;
 mod tail;
+mod tree_records;
 mod world;
 
-pub use checks::{check_insert, check_replace};
+pub use pre_insertion::{check_insert, check_replace};
 pub use content::Content;
-pub use questions::{data_in, document_in, reference_child};
+pub use queries::{data_in, document_in, reference_child};
 pub use refusal::Refusal;
 pub use world::World;

@@ -9,7 +9,7 @@ ghost use Rattle.dom_model.specs.Worlds.World.{first_world};
 ghost use Rattle.dom_model.specs.Worlds.Making.{made_node};
 ghost use Rattle.dom_model.specs.Forests.Nodes.{is_of_kind};
 ghost use Rattle.dom_edit.specs.Whole.{IsWhole, Shows, CoversAhead, Follows};
-ghost use Rattle.dom_edit.specs.Keeping.{KeepsLabels};
+ghost use Rattle.dom_edit.specs.KeptNodes.{KeepsLabels};
 
 use crate::content::Content;
 use dom_kinds::{Kind, Label};

@@ -4,7 +4,7 @@ ghost use Rattle.dom_model.specs.Forests.Kinds.{node_name};
 ghost use Rattle.dom_model.specs.Worlds.Making.{named};
 ghost use Rattle.dom_model.specs.Commands.AnswerMaking.{doctype_label};
 
-use crate::texts::Texts;
+use crate::label_texts::LabelTexts;
 use arrayvec::ArrayString;
 use dom_model::Kind;
 use std::alloc::{AllocError, Global};
@@ -17,12 +17,12 @@ use std::marker::Model;
 #[derive(Debug, Drop)]
 pub struct Label {
     pub kind: Kind,
-    texts: Texts,
+    texts: LabelTexts,
 }
 
 impl Model for Label {
     ghost use Rattle.dom_model.specs.Forests.Kinds.{Label as PlainLabel};
-    ghost use Rattle.dom_kinds.specs.Texts.{name_in, public_in, system_in};
+    ghost use Rattle.dom_kinds.specs.LabelTexts.{name_in, public_in, system_in};
 
     ghost Value = { PlainLabel };
 
@@ -34,7 +34,7 @@ impl Label {
     pub fn named(alloc: Global, kind: Kind, name: &str) -> Result<Label, AllocError>
         ensures { IfOk result (λ made. made ≡ named kind name.now) }
     {
-        let texts = Texts::named(alloc, name)?;
+        let texts = LabelTexts::named(alloc, name)?;
         Ok(Label { kind, texts })
     }
 
@@ -44,7 +44,7 @@ impl Label {
     {
         Label {
             kind,
-            texts: Texts::Short(ArrayString::new()),
+            texts: LabelTexts::Short(ArrayString::new()),
         }
     }
 
@@ -64,7 +64,7 @@ impl Label {
         let texts = Box::new(alloc, (name, public_id, system_id))?;
         Ok(Label {
             kind: Kind::DocumentType,
-            texts: Texts::Doctype(texts),
+            texts: LabelTexts::Doctype(texts),
         })
     }
 

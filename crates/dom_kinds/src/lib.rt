@@ -4,8 +4,8 @@
 pub mod error;
 pub mod kind;
 pub mod label;
+mod label_texts;
 pub mod names;
-mod texts;
 
 pub use dom_model::{DomError, Kind};
 pub use error::Exception;

@@ -1,18 +1,18 @@
-pub mod Cells
-pub mod Changing
-mod Closing
-pub mod Counting
-pub mod Cutting
-mod Filling
-mod Finding
-pub mod Leaves
-mod Leaving
-mod Memory
-pub mod Neighbours
-mod Places
-pub mod Placing
-mod Reading
-mod Relinking
-mod Revaluing
-mod Sharing
-mod Standing
+mod ArenaAgainLemmas
+mod ArenaMemoryLemmas
+pub mod CellsLemmas
+mod CellsLentLemmas
+pub mod ChangedMemoryLemmas
+mod DropLemmas
+mod FillSlotLemmas
+pub mod LeafLemmas
+mod LinkUnlinkLemmas
+pub mod ListLengthLemmas
+pub mod ListNeighbourLemmas
+mod LookLemmas
+mod NodeReadLemmas
+pub mod PlacedLemmas
+mod PoolStepLemmas
+mod PoolWalkLemmas
+mod SetValueLemmas
+pub mod UnlinkLemmas

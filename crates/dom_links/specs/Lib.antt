@@ -1,7 +1,7 @@
+pub mod ArenaMemory
+pub mod Borrows
 pub mod Cells
-pub mod Lends
+pub mod LinkSteps
 pub mod Ownership
 pub mod Placed
 pub mod Pointers
-pub mod Standing
-pub mod Wiring

@@ -2,7 +2,7 @@
 use Rattle.std.specs.Prelude.{◌≡◌, ℕ, suc, if◌then◌else◌, List, [], ◌∷◌, slice_index_or, Option, Some, None, IsSome, option_map}
 use denote.RawPtr.{Ptr}
 use Rattle.dom_model.specs.Forests.Arena.{Arena, Entry, entry_at, parent_in, children_in, next_in, previous_in, IsHeld, StandsUnder, linked, unlinked}
-use Rattle.dom_links.specs.Wiring.{leads_to}
+use Rattle.dom_links.specs.LinkSteps.{leads_to}
 
 pub record Placed (T : Type 0) : Type 0 where
   pub arena : Arena T

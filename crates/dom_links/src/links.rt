@@ -64,7 +64,7 @@ impl<T> Links<T> {
     ghost use Rattle.std.specs.Borrow.{sem};
     ghost use Rattle.dom_model.specs.PlainLists.Lists.{head_of, last_of};
     ghost use Rattle.dom_model.specs.Forests.Arena.{entry_at, parent_in, children_in, next_in, previous_in, IsHeld, IsSound, StandsUnder, no_slots, next_slot, added, linked, unlinked, taken};
-    ghost use Rattle.dom_links.specs.Lends.{lends_value};
+    ghost use Rattle.dom_links.specs.Borrows.{lends_value};
 
     /// Returns a store without slots. It takes no memory.
     pub fn new(alloc: Global) -> Links<T>

@@ -1,6 +1,6 @@
 //! A node of the store, and its links to others.
 ghost use Rattle.std.specs.Prelude.{◌≡◌};
-ghost use Rattle.dom_links.specs.Wiring.{alone_node};
+ghost use Rattle.dom_links.specs.LinkSteps.{alone_node};
 
 use crate::place::Link;
 

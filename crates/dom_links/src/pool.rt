@@ -64,7 +64,7 @@ impl<N> Model for Pool<N> {
 }
 
 impl<N> Pool<N> {
-    ghost use Rattle.dom_links.specs.Lends.{lends_item};
+    ghost use Rattle.dom_links.specs.Borrows.{lends_item};
 
     /// Returns an empty pool. It takes no memory.
     pub fn new() -> Pool<N>

@@ -3,8 +3,8 @@ ghost use Rattle.std.specs.Prelude.{◌≡◌, ◌≤◌, ◌<◌, ◌^◌, leng
 ghost use Rattle.std.specs.Vec.{vec_capacity};
 ghost use denote.RawPtr.{Ptr};
 ghost use Rattle.dom_links.specs.Cells.{look};
-ghost use Rattle.dom_links.specs.Standing.{pointer_in};
-ghost use Rattle.dom_links.specs.Wiring.{link_or, GivesSlot, link_ahead, with_next, with_previous, recounted, with_links};
+ghost use Rattle.dom_links.specs.ArenaMemory.{pointer_in};
+ghost use Rattle.dom_links.specs.LinkSteps.{link_or, GivesSlot, link_ahead, with_next, with_previous, recounted, with_links};
 
 use crate::node::Node;
 use crate::place::Link;

@@ -29,7 +29,7 @@ impl<T> Model for Store<T> {
     ghost Value = { Placed T };
 
     ghost use Rattle.std.specs.Vec.{vec_capacity};
-    ghost use Rattle.dom_links.specs.Standing.{arena_of, Keeps};
+    ghost use Rattle.dom_links.specs.ArenaMemory.{arena_of, Keeps};
 
     ghost view = { λ s. record { arena = arena_of s.table.items s.pool.cells s.free.items; places = s.table.items } };
 
@@ -41,7 +41,7 @@ impl<T> Store<T> {
     ghost use Rattle.dom_model.specs.PlainLists.Lists.{head_of, last_of};
     ghost use Rattle.dom_model.specs.Forests.Arena.{entry_at, parent_in, children_in, IsHeld, IsSound, no_slots, next_slot, added, taken};
     ghost use Rattle.dom_links.specs.Placed.{slot_of, slots_of, entry_behind, parent_at, children_at, next_at, previous_at, HasParent, HasNoParent, IsChildOf, IsUnder, linked_at, unlinked_at, IsPlaced, KeepsPlaces, KeepsPlacesBut};
-    ghost use Rattle.dom_links.specs.Lends.{lends_placed};
+    ghost use Rattle.dom_links.specs.Borrows.{lends_placed};
 
     /// Returns a store without slots. It takes no memory.
     pub fn new(alloc: Global) -> Store<T>

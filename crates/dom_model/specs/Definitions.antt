@@ -20,9 +20,9 @@ pub use Rattle.dom_model.specs.BoundaryPoints.Points.{path_places, place_of, ord
 pub use Rattle.dom_model.specs.Soundness.Sound.{IsBoundary, IsRange, IsIterator, IsWalker, IsRegistration, AreHeld, IsSound}
 pub use Rattle.dom_model.specs.Soundness.Owners.{IsOwned, HasOwners, IsOwnedWell}
 pub use Rattle.dom_model.specs.MutationObservers.GivenOptions.{GivenOptions, no_options}
-pub use Rattle.dom_model.specs.MutationObservers.Record.{Record, Told}
+pub use Rattle.dom_model.specs.MutationObservers.Record.{Record, Notification}
 pub use Rattle.dom_model.specs.MutationObservers.Observing.{registered_on, standing_on, noted, transient_of, with_transients}
-pub use Rattle.dom_model.specs.MutationObservers.Records.{is_on, attributes_on, character_data_on, options_refusal, options_of, settled_unless, settled, is_registered, is_transient_from, new_registration, with_options, registered, observed, name_passes, type_passes, interests, asks_old_value, interested, record_with, record_by, record_for, taken_up_to, has_observer, records_past, queue_of, observers_of, each_once, pending_of, InterestedAreMade, with_observer, records_taken, disconnected, released_observer, told_in, has_records, told, moved_to, after_notify, pending_taken, is_transient_of, observer_told, told_in_turn, answers_in_turn, transients_ended}
+pub use Rattle.dom_model.specs.MutationObservers.Records.{is_on, attributes_on, character_data_on, options_refusal, options_of, settled_unless, settled, is_registered, is_transient_from, new_registration, with_options, registered, observed, name_passes, type_passes, interests, asks_old_value, interested, record_with, record_by, record_for, taken_up_to, has_observer, records_past, queue_of, observers_of, each_once, pending_of, InterestedAreMade, with_observer, records_taken, disconnected, released_observer, told_in, has_records, notifications, moved_to, after_notify, pending_taken, is_transient_of, observer_told, told_in_turn, answers_in_turn, transients_ended}
 pub use Rattle.dom_model.specs.MutationAlgorithms.Checks.{if_given, has_kind, count_kind, doctype_from, doctype_after, element_before, holds_too_much, element_refused, doctype_refused, document_refuses, document_refuses_instead, is_misplaced, common_conditions, kind_refuses, check_insert, check_replace}
 pub use Rattle.dom_model.specs.MutationAlgorithms.PreRemoval.{following_outside, moved_on, moved_back, stepped_off, pre_removed_among, pre_removed, pre_removed_all}
 pub use Rattle.dom_model.specs.MutationAlgorithms.Editing.{queued, tree_record, tree_record_unless, taken_out, transients_made, removed_from, remove, remove_all, is_fragment, nodes_of, emptied_fragment, freed, document_in, node_document, put_in, put_all, gap_before, previous_to, insert_all, insert_nodes, insert, reference_child, pre_insert, append, replace, added_by, insert_if_any, replaced_record, replace_all, adopt}

@@ -10,9 +10,9 @@ names_of None = None
 names_of (Some names) = Some (map string_bytes names.items)
 
 -- a text that is lent
-abbrev pub text_of : Option (Bor (List ℕ)) → Option (List ℕ)
-text_of None = None
-text_of (Some text) = Some text.now
+abbrev pub given_name : Option (Bor (List ℕ)) → Option (List ℕ)
+given_name None = None
+given_name (Some text) = Some text.now
 
 -- a text that is owned
 abbrev pub name_of : {Z : Type 0} → Option (String Z) → Option (List ℕ)

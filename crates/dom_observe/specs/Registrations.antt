@@ -12,8 +12,8 @@ use Rattle.dom_model.specs.MutationObservers.Records.{is_registered, is_transien
 use Rattle.dom_observe.specs.Keys.{Keys}
 use Rattle.dom_observe.specs.Watchers.{on}
 use Rattle.dom_observe.specs.declared.registration.Registration.{Registration}
-use Rattle.dom_observe.specs.declared.registration.Ended.{Ended}
-use Rattle.dom_observe.specs.declared.registration.Ended.TheVariants.{Transient, Of, From, TransientOf}
+use Rattle.dom_observe.specs.declared.registration.EndedRegistrations.{EndedRegistrations}
+use Rattle.dom_observe.specs.declared.registration.EndedRegistrations.TheVariants.{Transient, Of, From, TransientOf}
 use Rattle.dom_observe.specs.declared.registration.Lifetime.{Lifetime}
 use Rattle.dom_observe.specs.declared.registration.Lifetime.TheVariants.{Lasting, Passing}
 use Rattle.dom_observe.specs.declared.registration.Ending.{Ending}
@@ -26,7 +26,7 @@ abbrev pub concerns : RecordType → ℕ → Option (List ℕ) → model.Registr
 concerns what target name r = ((r.node == target) || r.options.subtree) && type_passes what name r.options
 
 -- a step leaves the registration
-abbrev pub spares : Ended → model.Registration → Bool
+abbrev pub spares : EndedRegistrations → model.Registration → Bool
 spares Transient r = is_none r.source
 spares (Of o) r = not (r.observer == o)
 spares (From o n) r = not (is_transient_from o n r)
@@ -54,13 +54,13 @@ abbrev pub listed : List (ℕ × Keys) → List (ℕ × List ℕ)
 listed entries = map (λ e. (e.0, e.1.items)) entries
 
 -- what a table and the keys of nodes stand for
-abbrev pub registered : Slab Registration → List (ℕ × Keys) → Registered
-registered table entries = record { rows = table.slots; lists = listed entries }
+abbrev pub registered_view : Slab Registration → List (ℕ × Keys) → Registered
+registered_view table entries = record { rows = table.slots; lists = listed entries }
 
 -- what a step leaves of what stood under a key
-abbrev pub left_by : Ended → Option model.Registration → Option model.Registration
-left_by ended None = None
-left_by ended (Some r) = if spares ended r then Some r else None
+abbrev pub unless_ended : EndedRegistrations → Option model.Registration → Option model.Registration
+unless_ended ended None = None
+unless_ended ended (Some r) = if spares ended r then Some r else None
 
 -- a table, as what stands under each key
 
@@ -79,7 +79,7 @@ abbrev pub with_new_options : model.Options → model.Registration → model.Reg
 with_new_options options r = record r { options = options }
 
 -- a registration of an observer that is there, by a test, stands under the key
-pub record Stands (under : ℕ → Option model.Registration) (there : ℕ → Bool) (key : ℕ) : Type 0 where
+pub record HasRegistration (under : ℕ → Option model.Registration) (there : ℕ → Bool) (key : ℕ) : Type 0 where
   pub registration : model.Registration
   pub is : under key ≡ Some registration
   pub observer : there registration.observer ≡ true
@@ -111,8 +111,8 @@ abbrev pub Swept : Registered → Registered → Type 0
 Swept old new = (n : ℕ) → on n new.lists ≡ filter (is_live (at new)) (on n old.lists)
 
 -- what stands under a key is a registration on the node; a lasting one of the observer; a transient one of it
-abbrev pub is_on : ℕ → Option model.Registration → Bool
-is_on n o = option_map_or (λ (r : model.Registration). r.node == n) o false
+abbrev pub is_on_node : ℕ → Option model.Registration → Bool
+is_on_node n o = option_map_or (λ (r : model.Registration). r.node == n) o false
 
 abbrev pub lasts_for : ℕ → Option model.Registration → Bool
 lasts_for i o = option_map_or (λ (r : model.Registration). (r.observer == i) && is_none r.source) o false
@@ -121,8 +121,8 @@ abbrev pub passes_for : ℕ → Option model.Registration → Bool
 passes_for i o = option_map_or (λ (r : model.Registration). (r.observer == i) && is_some r.source) o false
 
 -- each node has the keys of the registrations on it, and no others
-abbrev pub Placed : (ℕ → Option model.Registration) → List (ℕ × List ℕ) → Type 0
-Placed under lists = (n key : ℕ) → among key (on n lists) ≡ is_on n (under key)
+abbrev pub AreListedByNode : (ℕ → Option model.Registration) → List (ℕ × List ℕ) → Type 0
+AreListedByNode under lists = (n key : ℕ) → among key (on n lists) ≡ is_on_node n (under key)
 
 -- each observer has the keys of its registrations of a kind, and no others
 abbrev pub Owned : (ℕ → Option model.Registration → Bool) → (ℕ → Option model.Registration) → List (List ℕ) → Type 0
@@ -152,12 +152,12 @@ abbrev pub goes : Ending → Option model.Registration → Bool
 goes e None = false
 goes e (Some r) = of_kind e.lifetime e.observer (Some r) && not (spares e.ended r)
 
-abbrev pub left_after : Ending → Option model.Registration → Option model.Registration
-left_after e o = if goes e o then None else o
+abbrev pub unless_ending : Ending → Option model.Registration → Option model.Registration
+unless_ending e o = if goes e o then None else o
 
 -- what stands under a key is as before, or what is left of it
 abbrev pub Between : Ending → Option model.Registration → Option model.Registration → Type 0
-Between e before after = (after ≡ before) ⊎ (after ≡ left_after e before)
+Between e before after = (after ≡ before) ⊎ (after ≡ unless_ending e before)
 
 -- the node of a registration that ends
 abbrev pub ending_node : Ending → Option model.Registration → Option ℕ
@@ -217,12 +217,12 @@ abbrev pub from_at : (ℕ → Option model.Registration) → ℕ → ℕ → ℕ
 from_at under o n key = option_map_or (is_transient_from o n) (under key) false
 
 -- a node with these keys gets a transient registration from another: that has subtree, and none of its observer and origin is there yet
-abbrev pub gives : (ℕ → Option model.Registration) → List ℕ → model.Registration → Bool
-gives under own r = r.options.subtree && not (list_any (from_at under r.observer (origin r)) own)
+abbrev pub gives_transient : (ℕ → Option model.Registration) → List ℕ → model.Registration → Bool
+gives_transient under own r = r.options.subtree && not (list_any (from_at under r.observer (origin r)) own)
 
 abbrev pub transient_of_any : (ℕ → Option model.Registration) → List ℕ → ℕ → Option model.Registration → Option model.Registration
 transient_of_any under own node None = None
-transient_of_any under own node (Some r) = if gives under own r then Some (transient_of node r) else None
+transient_of_any under own node (Some r) = if gives_transient under own r then Some (transient_of node r) else None
 
 abbrev pub transient_under : (ℕ → Option model.Registration) → List ℕ → ℕ → ℕ → Option model.Registration
 transient_under under own node key = transient_of_any under own node (under key)

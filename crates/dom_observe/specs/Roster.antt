@@ -3,7 +3,7 @@ use Rattle.std.specs.Prelude.{ℕ, Bool, List, [], map, Option, None, Some, opti
 use Rattle.dom_model.specs.MutationObservers.Record.{Record}
 use Rattle.dom_observe.specs.declared.roster.Observer.{Observer}
 use Rattle.dom_observe.specs.Watchers.{records_at}
-use Rattle.dom_observe.specs.Kept.{has_queue}
+use Rattle.dom_observe.specs.Invariant.{has_queue}
 
 -- what is kept under a number; none where the number was not given out, or its observer was released
 abbrev pub observer_at : List (Option Observer) → ℕ → Option Observer

@@ -4,7 +4,7 @@ use Rattle.std.specs.List.{AllByRecursion, IsDistinct, list_any}
 use Rattle.std.specs.Map.{keys_of, lookup}
 use Rattle.dom_model.specs.Worlds.World.{Registration}
 use Rattle.dom_model.specs.MutationObservers.Records.{is_registered}
-use Rattle.dom_observe.specs.Once.{same_options, same_registration}
+use Rattle.dom_observe.specs.WithoutRepeats.{same_options, same_registration}
 use Rattle.dom_observe.specs.Watchers.{Watchers, queue_in, on}
 
 -- of an observer that is there
@@ -17,7 +17,7 @@ HasSource o r = (m : ℕ) → r.source ≡ Some m → list_any (λ s. is_registe
 
 -- Each node is listed once, and with a registration; each registration stands on its node, of an observer that is there, and where it is a
 -- transient one so does its source; no node has two that are equal in every field; each pending observer is there.
-pub record IsSound (o : Watchers) : Type 0 where
+pub record AreSoundWatchers (o : Watchers) : Type 0 where
   pub listed : IsDistinct nat_eq (keys_of o.nodes)
   pub filled : (n : ℕ) → lookup (nat_eq n) o.nodes ≢ Some []
   pub here : (n : ℕ) → AllByRecursion (λ (r : Registration). r.node ≡ n) (on n o.nodes)

@@ -4,7 +4,7 @@ use Rattle.dom_model.specs.Worlds.World.{Registration, Observing}
 use Rattle.dom_model.specs.MutationObservers.Observing.{registered_on}
 use Rattle.dom_model.specs.MutationObservers.Record.{Record}
 use Rattle.dom_model.specs.MutationObservers.Records.{is_registered, taken_up_to, has_observer, queue_of, pending_of, InterestedAreMade}
-use Rattle.dom_observe.specs.Once.{once}
+use Rattle.dom_observe.specs.WithoutRepeats.{once}
 
 -- nodes with the registrations on them, in their order, without later equal ones; for each number ever given out the queue of its observer, none
 -- where it was released; the pending list
@@ -47,9 +47,9 @@ pub record Watches (o : Watchers) (x : Observing) : Type 0 where
   pub once : (i n : ℕ) → length (filter (is_registered i n) x.registrations) ≤ 1
 
 -- whatever observing part the old observers stand for, the new ones stand for what a step makes of it
-abbrev pub Steps : (Observing → Observing) → Watchers → Watchers → Type 0
-Steps step old new = (x : Observing) → Watches old x → Watches new (step x)
+abbrev pub StepsObserving : (Observing → Observing) → Watchers → Watchers → Type 0
+StepsObserving step old new = (x : Observing) → Watches old x → Watches new (step x)
 
 -- whatever observing part the observers stand for, this is what a question to it answers
-abbrev pub Answers : {A : Type 0} → (Observing → A) → Watchers → A → Type 0
-Answers question o answer = (x : Observing) → Watches o x → answer ≡ question x
+abbrev pub AnswersQuestion : {A : Type 0} → (Observing → A) → Watchers → A → Type 0
+AnswersQuestion question o answer = (x : Observing) → Watches o x → answer ≡ question x

@@ -4,7 +4,7 @@ ghost use Rattle.std.specs.Prelude.{◌≡◌, false, map, string_bytes, IfOk};
 ghost use Rattle.std.specs.Option.{option_map_or};
 ghost use Rattle.indexmap.specs.IndexSet.{contains_text};
 ghost use Rattle.dom_model.specs.MutationObservers.Records.{name_passes, type_passes, asks_old_value};
-ghost use Rattle.dom_observe.specs.Names.{text_of, HasNames};
+ghost use Rattle.dom_observe.specs.Names.{given_name, HasNames};
 
 use crate::options::Options;
 use dom_model::RecordType;
@@ -29,7 +29,7 @@ fn set_of(alloc: Global, names: &[String]) -> Result<IndexSet<String>, AllocErro
 
 // Whether there is a name, and the set has it.
 fn has_name(set: &IndexSet<String>, name: Option<&str>) -> bool
-    ensures { result ≡ option_map_or (contains_text set.now) (text_of name.entry) false }
+    ensures { result ≡ option_map_or (contains_text set.now) (given_name name.entry) false }
 {
     match name {
         Some(name) => set.contains(name),
@@ -39,13 +39,13 @@ fn has_name(set: &IndexSet<String>, name: Option<&str>) -> bool
 
 // The options of a registration. What they ask for takes constant time, however many names their filter has.
 #[derive(Debug, Drop)]
-pub struct Asked {
+pub struct Interests {
     options: Options,
     // the names of the filter, where they are more than a few
     names: Option<IndexSet<String>>,
 }
 
-impl Model for Asked {
+impl Model for Interests {
     ghost use Rattle.dom_model.specs.Worlds.World.{Options as PlainOptions};
     ghost use Rattle.dom_observe.specs.Names.{Sifts};
 
@@ -56,16 +56,16 @@ impl Model for Asked {
     ghost invariant = { λ a. Sifts a.options.attribute_filter a.names };
 }
 
-impl Asked {
+impl Interests {
     // Options that are settled, with room for the set.
-    pub fn new(alloc: Global, options: Options) -> Result<Asked, AllocError>
+    pub fn new(alloc: Global, options: Options) -> Result<Interests, AllocError>
         ensures { IfOk result (λ asked. asked ≡ options) }
     {
         let names = match &options.attribute_filter {
             Some(names) if names.len() > FEW => Some(set_of(alloc, names.as_slice())?),
             _ => None,
         };
-        Ok(Asked { options, names })
+        Ok(Interests { options, names })
     }
 
     // Whether what stands inside the node is observed too.
@@ -77,7 +77,7 @@ impl Asked {
 
     // Whether an attribute of that name passes the filter.
     fn passes(&self, name: Option<&str>) -> bool
-        ensures { result ≡ name_passes self.now.attribute_filter (text_of name.entry) }
+        ensures { result ≡ name_passes self.now.attribute_filter (given_name name.entry) }
     {
         match &self.names {
             Some(set) => has_name(set, name),
@@ -87,7 +87,7 @@ impl Asked {
 
     // Whether a mutation of that type and name is asked for.
     pub fn asks(&self, what: RecordType, name: Option<&str>) -> bool
-        ensures { result ≡ type_passes what (text_of name.entry) self.now }
+        ensures { result ≡ type_passes what (given_name name.entry) self.now }
     {
         match what {
             RecordType::ChildList => self.options.child_list,

@@ -1,27 +1,27 @@
 //! Mutation observers: who watches which nodes, and the records that wait for them (DOM Standard, "Mutation observers").
 #![tactic(auto)]
 
-mod adding;
-mod ending;
 mod filter;
-mod naming;
 mod node_keys;
-mod notifying;
+mod node_references;
+mod notification;
 mod observer_id;
 mod observers;
 mod options;
 mod origins;
 mod queue;
+mod queue_record;
 mod queues;
 mod record;
 mod registration;
+mod registration_removal;
+mod registration_table;
 mod registrations;
 mod roster;
-mod table;
-mod telling;
+mod transient_registrations;
 
 pub use dom_model::RecordType;
 pub use observer_id::{ObserverId, OfObserver};
 pub use observers::Observers;
-pub use options::{Options, RawOptions, settle};
-pub use record::{Mutation, Record, Told};
+pub use options::{Options, RawOptions, resolve_options};
+pub use record::{Mutation, Record, Notification};

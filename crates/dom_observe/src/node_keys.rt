@@ -6,7 +6,7 @@ ghost use Rattle.dom_observe.specs.Watchers.{on};
 ghost use Rattle.dom_observe.specs.Registrations.{in_table, is_live, listed, HaveKeys};
 
 use crate::registration::Registration;
-use crate::table::{cut, prune};
+use crate::registration_table::{cut, prune};
 use dom_tree::NodeId;
 use indexmap::IndexMap;
 use slab::Slab;

@@ -6,28 +6,28 @@ ghost use Rattle.dom_model.specs.PlainLists.Lists.{among};
 ghost use Rattle.dom_model.specs.MutationAlgorithms.Discarding.{observed_nodes};
 ghost use Rattle.dom_model.specs.Worlds.World.{Observing};
 ghost use Rattle.dom_model.specs.MutationObservers.Observing.{standing_on, noted, with_transients};
-ghost use Rattle.dom_model.specs.MutationObservers.Records.{queue_of, observed, with_observer, records_taken, disconnected, released_observer, told, after_notify, pending_taken, observer_told};
-ghost use Rattle.dom_observe.specs.Held.{named, nodes_of_mutation, NamesNoneOf, NamesOnly, SameObservers};
+ghost use Rattle.dom_model.specs.MutationObservers.Records.{queue_of, observed, with_observer, records_taken, disconnected, released_observer, notifications, after_notify, pending_taken, observer_told};
+ghost use Rattle.dom_observe.specs.ObservedNodes.{referred_nodes, nodes_of_mutation, NamesNoneOf, NamesOnly, SameObservers};
 ghost use Rattle.std.specs.List.{list_any};
-ghost use Rattle.dom_observe.specs.Notifying.{waiting_in, IsNotified};
-ghost use Rattle.dom_observe.specs.Once.{once};
-ghost use Rattle.dom_observe.specs.Refused.{IsPartlyQueued, IsPartlyLeft, IsPartlyRemoved};
-ghost use Rattle.dom_observe.specs.Removed.{removed_below};
-ghost use Rattle.dom_observe.specs.Sound.{IsSound};
-ghost use Rattle.dom_observe.specs.Watchers.{queue_in, records_at, registrations_in, Watches, Steps, Answers};
+ghost use Rattle.dom_observe.specs.Notification.{waiting_in, IsNotified};
+ghost use Rattle.dom_observe.specs.WithoutRepeats.{once};
+ghost use Rattle.dom_observe.specs.OutOfMemory.{IsPartlyQueued, IsPartlyLeft, IsPartlyRemoved};
+ghost use Rattle.dom_observe.specs.Removal.{removed_below};
+ghost use Rattle.dom_observe.specs.Sound.{AreSoundWatchers};
+ghost use Rattle.dom_observe.specs.Watchers.{queue_in, records_at, registrations_in, Watches, StepsObserving, AnswersQuestion};
 
-use crate::adding::{add_transients, find_standing, find_standing_deep};
-use crate::filter::Asked;
-use crate::naming::{is_named, is_told};
-use crate::notifying::gather;
+use crate::transient_registrations::{add_transients, find_standing, find_standing_deep};
+use crate::filter::Interests;
+use crate::node_references::{is_named, is_in_queues};
+use crate::notification::gather;
 use crate::observer_id::ObserverId;
 use crate::options::Options;
-use crate::queues::{catch_up_each, take_from};
-use crate::record::{Mutation, Record, Told};
-use crate::registration::{Ended, Ending, Lifetime, Registration};
+use crate::queues::{flush_each, take_from};
+use crate::record::{Mutation, Record, Notification};
+use crate::registration::{EndedRegistrations, Ending, Lifetime, Registration};
 use crate::registrations::Registrations;
 use crate::roster::Roster;
-use crate::telling::tell;
+use crate::queue_record::queue_for_interested;
 use dom_tree::{NodeId, Tree};
 use indexmap::IndexSet;
 use std::alloc::{AllocError, Global};
@@ -59,7 +59,7 @@ impl Model for Observers {
     ghost Value = { Watchers };
 
     ghost use Rattle.dom_observe.specs.Registrations.{at, HaveSources, Agree};
-    ghost use Rattle.dom_observe.specs.Kept.{registered_nodes, has_queue, IsKept, IsIndexed, IsAwaited};
+    ghost use Rattle.dom_observe.specs.Invariant.{registered_nodes, has_queue, HoldsInvariant, IsIndexed, IsAwaited};
     ghost use Rattle.dom_observe.specs.Roster.{lasting_by, passing_by, queues_by};
 
     ghost view = { λ o. record {
@@ -68,7 +68,7 @@ impl Model for Observers {
       pending = o.pending.keys;
     } };
 
-    ghost invariant = { λ o. IsKept o.registrations (queues_by o.roster) o.pending.keys
+    ghost invariant = { λ o. HoldsInvariant o.registrations (queues_by o.roster) o.pending.keys
         × IsIndexed (at o.registrations) (lasting_by o.roster) (passing_by o.roster) o.fleeting.keys (has_queue (queues_by o.roster))
         × HaveSources (at o.registrations) × Agree (at o.registrations) × IsAwaited (queues_by o.roster) o.pending.keys o.untold.keys };
 }
@@ -97,7 +97,7 @@ impl Observers {
         ensures number { IfOk result (λ id. id ≡ length self.old.queues) }
         ensures held { IfOk result (λ id. IsSome (queue_in self.new id)) }
         ensures made { OnOk result (self.new.queues ≡ self.old.queues ++ Some [] ∷ []) }
-        ensures ok { OnOk result (Steps with_observer self.old self.new) }
+        ensures ok { OnOk result (StepsObserving with_observer self.old self.new) }
         ensures err { OnErr result (self.new ≡ self.old) }
         ensures names { NamesOnly [] self.old self.new }
     {
@@ -106,7 +106,7 @@ impl Observers {
 
     /// States a law: what holds of observers at all times, even after a refused call.
     pub fn sound(&self)
-        ensures { IsSound self.now }
+        ensures { AreSoundWatchers self.now }
     {
         let _ = &self.registrations;
     }
@@ -121,14 +121,14 @@ impl Observers {
     /// Returns the number of live observers, in constant time.
     pub fn count(&self) -> usize
         ensures count { result ≡ count_by is_some self.now.queues }
-        ensures watched { Answers (λ x. count_by is_some x.places) self.now result }
+        ensures watched { AnswersQuestion (λ x. count_by is_some x.places) self.now result }
     {
         self.roster.count()
     }
 
     /// Returns the number of registrations, including transient ones, in constant time. Those that are equal in every field count once.
     pub fn registrations(&self) -> usize
-        ensures watched { Answers (λ x. length (once x.registrations)) self.now result }
+        ensures watched { AnswersQuestion (λ x. length (once x.registrations)) self.now result }
         ensures own { result ≡ registrations_in self.now }
     {
         self.registrations.len()
@@ -168,12 +168,12 @@ impl Observers {
         options: Options,
     ) -> Result<(), AllocError>
         requires held { IsSome (queue_in self.old observer) }
-        ensures ok { OnOk result (Steps (observed observer node options) self.old self.new) }
+        ensures ok { OnOk result (StepsObserving (observed observer node options) self.old self.new) }
         ensures err { OnErr result (self.new ≡ self.old) }
         ensures names { NamesOnly (node ∷ []) self.old self.new }
         ensures made { SameObservers self.old self.new }
     {
-        let asked = Asked::new(self.alloc, options)?;
+        let asked = Interests::new(self.alloc, options)?;
         let shared = Rc::new(self.alloc, asked)?;
         self.register(observer, node, shared)
     }
@@ -183,10 +183,10 @@ impl Observers {
         &mut self,
         observer: ObserverId,
         node: NodeId,
-        options: Rc<Asked>,
+        options: Rc<Interests>,
     ) -> Result<(), AllocError>
         requires held { IsSome (queue_in self.old observer) }
-        ensures ok { OnOk result (Steps (observed observer node options.value) self.old self.new) }
+        ensures ok { OnOk result (StepsObserving (observed observer node options.value) self.old self.new) }
         ensures err { OnErr result (self.new ≡ self.old) }
         ensures names { NamesOnly (node ∷ []) self.old self.new }
         ensures made { SameObservers self.old self.new }
@@ -223,7 +223,7 @@ impl Observers {
     /// Ends all registrations of an observer, and empties its queue ("disconnect").
     pub fn disconnect(&mut self, observer: ObserverId)
         requires held { IsSome (queue_in self.old observer) }
-        ensures ended { Steps (disconnected observer) self.old self.new }
+        ensures ended { StepsObserving (disconnected observer) self.old self.new }
         ensures names { NamesOnly [] self.old self.new }
         ensures made { SameObservers self.old self.new }
     {
@@ -236,7 +236,7 @@ impl Observers {
     /// Releases an observer: ends all its registrations and frees its state. Its number is not reused.
     pub fn release(&mut self, observer: ObserverId)
         requires held { IsSome (queue_in self.old observer) }
-        ensures released { Steps (released_observer observer) self.old self.new }
+        ensures released { StepsObserving (released_observer observer) self.old self.new }
         ensures names { NamesOnly [] self.old self.new }
         ensures made { self.new.queues ≡ slice_set self.old.queues observer None }
     {
@@ -252,8 +252,8 @@ impl Observers {
     /// Takes the records of an observer from its queue ("takeRecords"). It keeps its place in the pending list.
     pub fn take(&mut self, observer: ObserverId) -> Vec<Record>
         requires held { IsSome (queue_in self.old observer) }
-        ensures records { Answers (queue_of observer) self.old result.items }
-        ensures taken { Steps (records_taken observer) self.old self.new }
+        ensures records { AnswersQuestion (queue_of observer) self.old result.items }
+        ensures taken { StepsObserving (records_taken observer) self.old self.new }
         ensures own { result.items ≡ records_at self.old.queues observer }
         ensures left { self.new ≡ record self.old {
           queues = slice_set self.old.queues observer
@@ -302,7 +302,7 @@ impl Observers {
     ///
     /// Call it before the tree changes further, since it looks at the target's present ancestors. After an error some observers may have their record
     /// and others not; if no observer is registered at those ancestors, nothing has changed.
-    pub fn queue<X>(&mut self, tree: &Tree<X>, mutation: &Mutation<'_>) -> Result<(), AllocError>
+    pub fn queue_record<X>(&mut self, tree: &Tree<X>, mutation: &Mutation<'_>) -> Result<(), AllocError>
         requires { HasNode tree.now.forest mutation.now.target }
         ensures queued { OnOk result ((x : Observing) → Watches self.old x →
             Watches self.new (noted (record (mutation.now) {
@@ -322,7 +322,7 @@ impl Observers {
         if self.standing.is_empty() {
             return Ok(());
         }
-        tell(
+        queue_for_interested(
             &self.registrations,
             self.standing.as_slice(),
             &mut self.roster,
@@ -333,7 +333,7 @@ impl Observers {
     }
 
     /// Adds transient registrations to a node that was removed from its parent, and then queues a record for each interested observer: `transients`
-    /// and then `queue`, with one climb from the parent, which is the mutation's target.
+    /// and then `queue_record`, with one climb from the parent, which is the mutation's target.
     ///
     /// Call it after the removal. After an error some transient registrations or records may be missing; if no observer is registered at the parent's
     /// inclusive ancestors, nothing has changed.
@@ -345,7 +345,7 @@ impl Observers {
     ) -> Result<(), AllocError>
         requires held { HasNode tree.now.forest mutation.now.target }
         requires apart { among node (ancestors mutation.now.target tree.now.forest) ≡ false }
-        ensures removed { OnOk result (Steps
+        ensures removed { OnOk result (StepsObserving
             (removed_below node (ancestors mutation.now.target tree.now.forest) mutation.now)
             self.old self.new) }
         ensures partly { OnErr result (IsPartlyRemoved node mutation.now self.old self.new) }
@@ -370,7 +370,7 @@ impl Observers {
             node,
             self.alloc,
         )?;
-        tell(
+        queue_for_interested(
             &self.registrations,
             self.standing.as_slice(),
             &mut self.roster,
@@ -383,9 +383,9 @@ impl Observers {
     /// Returns the records of the pending observers, and ends every transient registration ("notify mutation observers").
     ///
     /// Records of an observer that was taken from the pending list and not notified since go on waiting. After an error nothing has changed.
-    pub fn notify(&mut self) -> Result<Vec<Told>, AllocError>
-        ensures told { IfOk result (λ all. Answers told self.old all.items) }
-        ensures after { OnOk result (Steps after_notify self.old self.new) }
+    pub fn notify(&mut self) -> Result<Vec<Notification>, AllocError>
+        ensures told { IfOk result (λ all. AnswersQuestion notifications self.old all.items) }
+        ensures after { OnOk result (StepsObserving after_notify self.old self.new) }
         ensures own { IfOk result (λ all. all.items
             ≡ waiting_in self.old.queues self.old.pending) }
         ensures notified { OnOk result (IsNotified self.old self.new) }
@@ -405,10 +405,10 @@ impl Observers {
     /// Takes the pending observers, the first step of "notify mutation observers": returns them in order, and empties the pending list. Their records
     /// go on waiting, and all registrations stay.
     ///
-    /// Pass each of them to `tell` in this order. After an error nothing has changed.
+    /// Pass each of them to `notify_one` in this order. After an error nothing has changed.
     pub fn take_pending(&mut self) -> Result<Vec<ObserverId>, AllocError>
         ensures pending { IfOk result (λ taken. taken.items ≡ self.old.pending) }
-        ensures taken { OnOk result (Steps pending_taken self.old self.new) }
+        ensures taken { OnOk result (StepsObserving pending_taken self.old self.new) }
         ensures left { OnOk result (self.new ≡ record self.old { pending = [] }) }
         ensures err { OnErr result (self.new ≡ self.old) }
         ensures names { NamesOnly [] self.old self.new }
@@ -421,10 +421,10 @@ impl Observers {
 
     /// Notifies one observer, the second step of "notify mutation observers": takes its records from its queue, and ends its transient registrations.
     /// It keeps its place in the pending list.
-    pub fn tell(&mut self, observer: ObserverId) -> Vec<Record>
+    pub fn notify_one(&mut self, observer: ObserverId) -> Vec<Record>
         requires held { IsSome (queue_in self.old observer) }
-        ensures records { Answers (queue_of observer) self.old result.items }
-        ensures told { Steps (observer_told observer) self.old self.new }
+        ensures records { AnswersQuestion (queue_of observer) self.old result.items }
+        ensures told { StepsObserving (observer_told observer) self.old self.new }
         ensures own { result.items ≡ records_at self.old.queues observer }
         ensures queues { self.new.queues ≡ slice_set self.old.queues observer (Some []) }
         ensures names { NamesOnly [] self.old self.new }
@@ -434,7 +434,7 @@ impl Observers {
         let ending = Ending {
             observer: Some(observer),
             lifetime: Lifetime::Passing,
-            ended: Ended::TransientOf(observer),
+            ended: EndedRegistrations::TransientOf(observer),
         };
         self.registrations.end_own(&mut kept.passing, &ending);
         self.registrations.sound();
@@ -446,27 +446,27 @@ impl Observers {
     ///
     /// Queues postpone this, since most records are taken before a query. It costs one look at each observer that is pending, or was taken and not
     /// notified, and one step for each node in records queued since the last call. Call it before a series of `refers`.
-    pub fn catch_up(&mut self)
+    pub fn flush_pending(&mut self)
         ensures { self.new ≡ self.old }
     {
-        catch_up_each(&mut self.roster, &self.pending);
-        catch_up_each(&mut self.roster, &self.untold);
+        flush_each(&mut self.roster, &self.pending);
+        flush_each(&mut self.roster, &self.untold);
     }
 
     /// Returns whether a registration or a waiting record refers to a node inside a subtree. Takes no memory.
     ///
     /// Walks the subtree and looks each node up, or climbs from the nodes with registrations if that takes fewer steps. Does the same for each queue
-    /// of an observer that is pending, or was taken and not notified, and climbs from each node in records queued since `catch_up`.
+    /// of an observer that is pending, or was taken and not notified, and climbs from each node in records queued since `flush_pending`.
     pub fn refers<X>(&self, tree: &Tree<X>, top: NodeId) -> bool
         requires { HasNode tree.now.forest top }
-        ensures observed { Answers
+        ensures observed { AnswersQuestion
             (λ x. list_any (λ m. among m (inclusive_descendants tree.now.forest top))
             (observed_nodes x))
             self.now result }
         ensures named { result ≡ list_any (λ m. among m (inclusive_descendants tree.now.forest top))
-            (named self.now) }
+            (referred_nodes self.now) }
     {
         is_named(tree, top, &self.registrations)
-            || is_told(tree, top, &self.roster, &self.pending, &self.untold)
+            || is_in_queues(tree, top, &self.roster, &self.pending, &self.untold)
     }
 }

@@ -67,7 +67,7 @@ impl Model for Options {
 }
 
 /// Returns the resolved options, or the refusal ("observe", the steps before the registration).
-pub fn settle(given: RawOptions) -> Result<Options, DomError>
+pub fn resolve_options(given: RawOptions) -> Result<Options, DomError>
     ensures { result ≡ settled given }
 {
     let attributes = given.attributes.unwrap_or(
@@ -116,7 +116,7 @@ fn is_one_of(name: &str, names: &[String]) -> bool
 }
 
 impl Options {
-    ghost use Rattle.dom_observe.specs.Names.{text_of};
+    ghost use Rattle.dom_observe.specs.Names.{given_name};
 
     /// Returns a copy.
     pub fn try_clone(&self, alloc: Global) -> Result<Options, AllocError>
@@ -139,7 +139,7 @@ impl Options {
 
     // Returns whether an attribute of a name passes the filter, by a scan of its names.
     pub(crate) fn passes(&self, name: Option<&str>) -> bool
-        ensures { result ≡ name_passes self.now.attribute_filter (text_of name.entry) }
+        ensures { result ≡ name_passes self.now.attribute_filter (given_name name.entry) }
     {
         match &self.attribute_filter {
             None => true,

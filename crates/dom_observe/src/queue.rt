@@ -37,7 +37,7 @@ impl Model for Queue {
 
     ghost view = { λ q. q.records.items };
 
-    ghost use Rattle.dom_observe.specs.Naming.{IsCaughtUp};
+    ghost use Rattle.dom_observe.specs.QueuedNodes.{IsCaughtUp};
 
     ghost invariant = { λ q. IsCaughtUp q.records.items q.named q.caught_up q.owed };
 }
@@ -55,7 +55,7 @@ impl Queue {
         }
     }
 
-    // Appends a record, and reserves room for its nodes in the set, to which `catch_up` adds them.
+    // Appends a record, and reserves room for its nodes in the set, to which `flush_pending` adds them.
     pub fn push(&mut self, told: Record) -> Result<(), AllocError>
         ensures ok { OnOk result (self.new ≡ self.old ++ told ∷ []) }
         ensures err { OnErr result (self.new ≡ self.old) }
@@ -69,7 +69,7 @@ impl Queue {
     }
 
     // Adds the nodes in records queued since its last call to the set. It takes no memory: room is reserved.
-    pub fn catch_up(&mut self)
+    pub fn flush_pending(&mut self)
         ensures { self.new ≡ self.old }
     {
         name_each(&mut self.named, &self.records.as_slice()[self.caught_up..]);
@@ -105,7 +105,7 @@ impl Queue {
             (flat_map nodes_of_record self.now) }
     {
         is_named_inside(tree, top, &self.named)
-            || is_told_inside(tree, top, &self.records.as_slice()[self.caught_up..])
+            || is_recorded_inside(tree, top, &self.records.as_slice()[self.caught_up..])
     }
 }
 
@@ -177,7 +177,7 @@ fn has_node_inside<X>(tree: &Tree<X>, top: NodeId, told: &Record) -> bool
 }
 
 // Returns whether a node in some records is inside a subtree.
-fn is_told_inside<X>(tree: &Tree<X>, top: NodeId, records: &[Record]) -> bool
+fn is_recorded_inside<X>(tree: &Tree<X>, top: NodeId, records: &[Record]) -> bool
     ensures { result ≡ list_any (λ r. list_any (λ m.
         among m (inclusive_descendants tree.now.forest top)) (nodes_of_record r)) records.now }
 {

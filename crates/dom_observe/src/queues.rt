@@ -1,7 +1,7 @@
 //! The queues of records that wait for their observers.
 
 ghost use Rattle.std.specs.Prelude.{◌≡◌, [], Some, slice_set, true};
-ghost use Rattle.dom_observe.specs.Kept.{AllThere};
+ghost use Rattle.dom_observe.specs.Invariant.{AllThere};
 ghost use Rattle.dom_observe.specs.Roster.{keys_by, queues_by, is_there, records_of};
 
 use crate::observer_id::ObserverId;
@@ -22,12 +22,12 @@ pub(crate) fn take_from(roster: &mut Roster, observer: ObserverId, alloc: Global
 }
 
 // Updates the sets of nodes of some observers' queues. It takes no memory.
-pub(crate) fn catch_up_each(roster: &mut Roster, observers: &IndexSet<ObserverId>)
+pub(crate) fn flush_each(roster: &mut Roster, observers: &IndexSet<ObserverId>)
     requires { AllThere (is_there roster.old) observers.now.keys }
     ensures { roster.new ≡ roster.old }
 {
     for observer in observers.as_slice() {
         let kept = roster.get_mut(*observer);
-        kept.queue.catch_up();
+        kept.queue.flush_pending();
     }
 }

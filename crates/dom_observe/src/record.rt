@@ -2,7 +2,7 @@
 
 ghost use Rattle.std.specs.Prelude.{◌≡◌, IfOk, None, if◌then◌else◌};
 ghost use Rattle.dom_model.specs.MutationObservers.Records.{record_with};
-ghost use Rattle.dom_observe.specs.Names.{name_of, text_of};
+ghost use Rattle.dom_observe.specs.Names.{name_of, given_name};
 
 use crate::observer_id::ObserverId;
 use crate::registration::Question;
@@ -45,13 +45,13 @@ impl Model for Record {
 
 /// An observer, and the records that it receives.
 #[derive(Debug, Drop)]
-pub struct Told {
+pub struct Notification {
     pub observer: ObserverId,
     pub records: Vec<Record>,
 }
 
-impl Model for Told {
-    ghost use Rattle.dom_model.specs.MutationObservers.Record.{Told as PlainTold};
+impl Model for Notification {
+    ghost use Rattle.dom_model.specs.MutationObservers.Record.{Notification as PlainTold};
 
     ghost Value = { PlainTold };
 
@@ -80,15 +80,15 @@ pub struct Mutation<'a> {
 impl<'a> Model for Mutation<'a> {
     ghost use Rattle.std.specs.Prelude.{[]};
     ghost use Rattle.dom_model.specs.Worlds.World.{Mutation as PlainMutation};
-    ghost use Rattle.dom_observe.specs.Names.{text_of};
+    ghost use Rattle.dom_observe.specs.Names.{given_name};
 
     ghost Value = { PlainMutation };
 
     ghost view = { λ m. record {
       type = m.what;
       target = m.target;
-      name = text_of m.name;
-      old_value = text_of m.old_value;
+      name = given_name m.name;
+      old_value = given_name m.old_value;
       added = m.added.now;
       removed = m.removed.now;
       previous = m.previous;
@@ -99,7 +99,7 @@ impl<'a> Model for Mutation<'a> {
 
 // Copies a name.
 fn copied_name(alloc: Global, name: Option<&str>) -> Result<Option<String>, AllocError>
-    ensures { IfOk result (λ copy. name_of copy ≡ text_of name.entry) }
+    ensures { IfOk result (λ copy. name_of copy ≡ given_name name.entry) }
 {
     match name {
         None => Ok(None),
@@ -113,7 +113,7 @@ fn copied_value(
     value: Option<&[u16]>,
     asked: bool,
 ) -> Result<Option<Units>, AllocError>
-    ensures { IfOk result (λ copy. copy ≡ (if asked then text_of value.entry else None)) }
+    ensures { IfOk result (λ copy. copy ≡ (if asked then given_name value.entry else None)) }
 {
     if !asked {
         return Ok(None);
@@ -151,7 +151,7 @@ impl Mutation<'_> {
     pub(crate) fn question(&self) -> Question<'_>
         ensures what { result.what ≡ self.now.type }
         ensures target { result.target ≡ self.now.target }
-        ensures name { text_of result.name ≡ self.now.name }
+        ensures name { given_name result.name ≡ self.now.name }
     {
         Question {
             what: self.what,

@@ -3,9 +3,9 @@
 ghost use Rattle.std.specs.Prelude.{◌≡◌, Some, IfOk, option_map, is_none, is_some, not, ◌==◌, ◌||◌, ◌&&◌};
 ghost use Rattle.dom_model.specs.PlainLists.Lists.{is_number};
 ghost use Rattle.dom_model.specs.MutationObservers.Records.{type_passes, asks_old_value};
-ghost use Rattle.dom_observe.specs.Names.{text_of};
+ghost use Rattle.dom_observe.specs.Names.{given_name};
 
-use crate::filter::Asked;
+use crate::filter::Interests;
 use crate::observer_id::ObserverId;
 use dom_model::RecordType;
 use dom_tree::NodeId;
@@ -17,7 +17,7 @@ use std::rc::Rc;
 pub struct Registration {
     pub node: NodeId,
     pub observer: ObserverId,
-    pub options: Rc<Asked>,
+    pub options: Rc<Interests>,
     pub source: Option<NodeId>,
     // higher than those of the registrations that came in on the node before it; given as it comes in
     pub turn: u64,
@@ -25,7 +25,7 @@ pub struct Registration {
 
 // Which registrations a step ends.
 #[derive(Clone, Copy, Debug)]
-pub enum Ended {
+pub enum EndedRegistrations {
     // every transient one
     Transient,
     // all of an observer
@@ -48,7 +48,7 @@ pub enum Lifetime {
 pub struct Ending {
     pub observer: Option<ObserverId>,
     pub lifetime: Lifetime,
-    pub ended: Ended,
+    pub ended: EndedRegistrations,
 }
 
 // What is asked of the registrations that stand above a target.
@@ -98,7 +98,7 @@ impl Registration {
     // Whether a mutation interests its observer by it.
     pub fn concerns(&self, question: &Question<'_>) -> bool
         ensures { result ≡ concerns question.now.what question.now.target
-            (text_of question.now.name) (plain self.now) }
+            (given_name question.now.name) (plain self.now) }
     {
         (self.node == question.target || self.options.subtree())
             && self.options.asks(question.what, question.name)
@@ -119,7 +119,7 @@ impl Registration {
     }
 }
 
-impl Ended {
+impl EndedRegistrations {
     ghost use Rattle.dom_observe.specs.Registrations.{plain, spares};
 
     // Whether the step leaves the registration.
@@ -127,10 +127,10 @@ impl Ended {
         ensures { result ≡ spares self.now (plain registration.now) }
     {
         match *self {
-            Ended::Transient => registration.source.is_none(),
-            Ended::Of(observer) => registration.observer != observer,
-            Ended::From(observer, node) => !registration.is_from(observer, node),
-            Ended::TransientOf(observer) => {
+            EndedRegistrations::Transient => registration.source.is_none(),
+            EndedRegistrations::Of(observer) => registration.observer != observer,
+            EndedRegistrations::From(observer, node) => !registration.is_from(observer, node),
+            EndedRegistrations::TransientOf(observer) => {
                 !(registration.observer == observer && registration.source.is_some())
             }
         }

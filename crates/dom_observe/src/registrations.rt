@@ -7,15 +7,15 @@ ghost use Rattle.std.specs.Map.{keys_of};
 ghost use Rattle.dom_model.specs.PlainLists.Lists.{among};
 ghost use Rattle.dom_model.specs.Forests.Forest.{inclusive_descendants};
 ghost use Rattle.dom_observe.specs.Watchers.{on};
-ghost use Rattle.dom_observe.specs.Registrations.{plain, at, is_live, is_on, own_at, left_after, with_new_options, origin_at, Added, NewKey, ByOrigin, IsFirstFrom, IsPast, Swept};
-ghost use Rattle.dom_observe.specs.Kept.{AreRegistered};
+ghost use Rattle.dom_observe.specs.Registrations.{plain, at, is_live, is_on_node, own_at, unless_ending, with_new_options, origin_at, Added, NewKey, ByOrigin, IsFirstFrom, IsPast, Swept};
+ghost use Rattle.dom_observe.specs.Invariant.{AreRegistered};
 
-use crate::ending::{end_key_on, end_keys_on, leave_out};
-use crate::filter::Asked;
+use crate::registration_removal::{end_key_on, end_keys_on, leave_out};
+use crate::filter::Interests;
 use crate::node_keys::{NodeKeys, put_key};
 use crate::observer_id::ObserverId;
 use crate::registration::{Ending, Registration};
-use crate::table::{next_turn, prune, set_options};
+use crate::registration_table::{next_turn, prune, set_options};
 use dom_tree::{NodeId, Tree};
 use indexmap::IndexMap;
 use slab::Slab;
@@ -32,14 +32,14 @@ pub(crate) struct Registrations {
 }
 
 impl Model for Registrations {
-    ghost use Rattle.dom_observe.specs.Registrations.{Registered, registered};
-    ghost use Rattle.dom_observe.specs.Kept.{AreRegistered};
+    ghost use Rattle.dom_observe.specs.Registrations.{Registered, registered_view};
+    ghost use Rattle.dom_observe.specs.Invariant.{AreRegistered};
 
     ghost Value = { Registered };
 
-    ghost view = { λ r. registered r.table r.nodes.entries };
+    ghost view = { λ r. registered_view r.table r.nodes.entries };
 
-    ghost invariant = { λ r. AreRegistered (registered r.table r.nodes.entries) };
+    ghost invariant = { λ r. AreRegistered (registered_view r.table r.nodes.entries) };
 }
 
 impl Registrations {
@@ -187,7 +187,7 @@ impl Registrations {
     }
 
     // Puts other options in place of those of a registration.
-    pub(crate) fn set_options(&mut self, key: usize, options: Rc<Asked>)
+    pub(crate) fn set_options(&mut self, key: usize, options: Rc<Interests>)
         ensures changed { at self.new key ≡ option_map (with_new_options options.value)
             (at self.old key) }
         ensures others { (other : ℕ) → other ≢ key → at self.new other ≡ at self.old other }
@@ -228,7 +228,7 @@ impl Registrations {
     // Takes out those on a node that end, with their keys, and the node with the last.
     pub(crate) fn end_on(&mut self, node: NodeId, ending: &Ending)
         ensures left { (k : ℕ) → at self.new k ≡ (if among k (on node self.old.lists)
-            then left_after ending.now (at self.old k) else at self.old k) }
+            then unless_ending ending.now (at self.old k) else at self.old k) }
         ensures swept { Swept self.old self.new }
     {
         let is_bare = end_keys_on(&mut self.table, &mut self.nodes, node, ending);
@@ -237,7 +237,7 @@ impl Registrations {
 
     // Takes out the one on a node that is under a key, with the key, and the node with the last. The other keys of the node are not gone through.
     pub(crate) fn end_one(&mut self, node: NodeId, key: usize)
-        requires { is_on node (at self.old key) ≡ true }
+        requires { is_on_node node (at self.old key) ≡ true }
         ensures left { (k : ℕ) → at self.new k ≡ (if k == key then None else at self.old k) }
         ensures swept { Swept self.old self.new }
     {

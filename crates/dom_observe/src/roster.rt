@@ -3,11 +3,11 @@
 ghost use Rattle.std.specs.Prelude.{◌≡◌, ◌<◌, ◌++◌, ◌∷◌, [], length, count_by, Some, None, IsSome, is_some, IfOk, OnOk, OnErr, slice_set};
 ghost use Rattle.std.specs.Borrow.{sem};
 ghost use Rattle.dom_observe.specs.Roster.{observer_at, keys_by, queues_by};
-ghost use Rattle.dom_observe.specs.Lending.{lends_observer};
+ghost use Rattle.dom_observe.specs.Borrows.{lends_observer};
 
 use crate::observer_id::ObserverId;
 use crate::queue::Queue;
-use dom_slots::Slotted;
+use dom_slots::NumberedItems;
 use std::alloc::{AllocError, Global};
 use std::marker::Model;
 
@@ -38,7 +38,7 @@ impl Observer {
 // The observers by their numbers. One that is released takes no memory any more.
 #[derive(Drop)]
 pub struct Roster {
-    kept: Slotted<Observer>,
+    kept: NumberedItems<Observer>,
 }
 
 impl Model for Roster {
@@ -57,7 +57,7 @@ impl Roster {
         ensures { result ≡ [] }
     {
         Roster {
-            kept: Slotted::new(alloc),
+            kept: NumberedItems::new(alloc),
         }
     }
 

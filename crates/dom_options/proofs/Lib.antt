@@ -1,3 +1,3 @@
-pub mod Reading
-pub mod Told
-pub mod Words
+pub mod FaultsInLemmas
+pub mod IsRefusalOfLemmas
+pub mod LimitReadLemmas

@@ -1,5 +1,5 @@
-pub mod Cells
-pub mod Held
-pub mod Paging
-pub mod Taken
-pub mod Written
+pub mod CellReadLemmas
+pub mod CellsLemmas
+pub mod PageCountLemmas
+pub mod PageWriteLemmas
+pub mod PagesLemmas

@@ -18,10 +18,10 @@ pub struct Pages<T, C: Cell<T> = Option<T>> {
 
 impl<T, C: Cell<T>> Model for Pages<T, C> {
     ghost use Rattle.std.specs.Prelude.{◌*◌, ◌-◌, length};
-    ghost use Rattle.dom_pages.specs.Numbered.{Numbered, numbered_code};
+    ghost use Rattle.dom_pages.specs.Numbered.{NumberedList, numbered_code};
     ghost use Rattle.dom_pages.specs.Paged.{page_size, cells_of, IsPaged};
 
-    ghost Value = { Numbered T };
+    ghost Value = { NumberedList T };
 
     ghost coded = { numbered_code T.code };
 

@@ -1,1 +1,1 @@
-pub mod Ways
+pub mod MeetingLemmas

@@ -3,6 +3,6 @@ use Rattle.std.specs.Prelude.{Option, Some, None, Result, Ok, Err}
 use Rattle.dom_model.specs.declared.DomError.{DomError}
 
 -- an answer that is a refusal or nothing
-abbrev pub refused : Option DomError → Result (Unit {0}) DomError
-refused None = Ok tt
-refused (Some e) = Err e
+abbrev pub result_of_check : Option DomError → Result (Unit {0}) DomError
+result_of_check None = Ok tt
+result_of_check (Some e) = Err e

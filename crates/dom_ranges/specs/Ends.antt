@@ -10,12 +10,12 @@ abbrev pub point_of : ℕ × ℕ → Point
 point_of end = record { node = end.0; offset = end.1 }
 
 -- the end that stands at a point
-abbrev pub end_at : Point → ℕ × ℕ
-end_at p = (p.node, p.offset)
+abbrev pub keyed_end : Point → ℕ × ℕ
+keyed_end p = (p.node, p.offset)
 
 -- an end moved as its point is
 abbrev pub moved_end : (Point → Point) → ℕ × ℕ → ℕ × ℕ
-moved_end move end = end_at (move (point_of end))
+moved_end move end = keyed_end (move (point_of end))
 
 -- the range from one end to another
 abbrev pub range_of : ℕ × ℕ → ℕ × ℕ → Range

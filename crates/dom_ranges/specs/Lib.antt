@@ -1,5 +1,5 @@
 pub mod Ends
 pub mod Markers
-pub mod Shifting
+pub mod Shifts
 pub mod StaticEnds
 pub mod Tables

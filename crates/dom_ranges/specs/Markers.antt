@@ -111,8 +111,8 @@ pub record StandAsEdited (w : World) (edits : List Edit) (ranges : List (Option 
 
 -- the same, from one table of live ranges to another: in each sound world that has the ranges of the first, and is as is asked. The edits are
 -- told by that world
-abbrev pub StandByEdits : (World → Type 0) → RangeTable → RangeTable → (World → List Edit) → Type 0
-StandByEdits IsAsked old new edits = (w : World) → IsSound w → w.ranges ≡ old.ranges → IsAsked w → StandAsEdited w (edits w) new.ranges
+abbrev pub RangesMatchEdits : (World → Type 0) → RangeTable → RangeTable → (World → List Edit) → Type 0
+RangesMatchEdits IsAsked old new edits = (w : World) → IsSound w → w.ranges ≡ old.ranges → IsAsked w → StandAsEdited w (edits w) new.ranges
 
 -- nothing is asked of the world
 abbrev pub IsAny : World → Type 0

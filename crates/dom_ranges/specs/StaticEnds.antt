@@ -15,12 +15,12 @@ abbrev pub kept_of : List (ℕ × ℕ) → ℕ → Option ℕ
 kept_of counts n = lookup (nat_eq n) counts
 
 -- how many ends stand in a node
-abbrev pub count_in : List (ℕ × ℕ) → ℕ → ℕ
-count_in counts n = count_at (kept_of counts) n
+abbrev pub end_count_at : List (ℕ × ℕ) → ℕ → ℕ
+end_count_at counts n = count_at (kept_of counts) n
 
 -- the same, with one more end in a node
 abbrev pub with_end : ℕ → List (ℕ × ℕ) → ℕ → ℕ
-with_end node counts n = (if node == n then 1 else 0) + count_in counts n
+with_end node counts n = (if node == n then 1 else 0) + end_count_at counts n
 
 -- no count is none
 abbrev pub AreCounts : List (ℕ × ℕ) → Type 0
@@ -32,4 +32,4 @@ ends_in ranges n = hits n (flat_map nodes_of_range ranges)
 
 -- what static ranges keep: for each node how many of their ends stand in it
 pub record AreKept (ranges : List Range) (counts : List (ℕ × ℕ)) : Type 0 where
-  pub counted : (n : ℕ) → count_in counts n ≡ ends_in ranges n
+  pub counted : (n : ℕ) → end_count_at counts n ≡ ends_in ranges n

@@ -11,7 +11,7 @@ use Rattle.dom_model.specs.Forests.Nodes.{is_of_kind}
 use Rattle.dom_model.specs.Worlds.Lengths.{node_length}
 use Rattle.dom_model.specs.MutationAlgorithms.Discarding.{nodes_of_range, nodes_unless_released}
 pub use Rattle.dom_chains.specs.Keyed.{covers, covered_to}
-pub use Rattle.dom_point.specs.Refusals.{refused}
+pub use Rattle.dom_point.specs.Refusals.{result_of_check}
 
 -- the live ranges by number, none where one was released, and for each node whether it is covered: only there an end may stand
 pub record RangeTable : Type 0 where
@@ -32,8 +32,8 @@ abbrev pub range_in : RangeTable → ℕ → Option Range
 range_in t r = slice_index_or t.ranges r None
 
 -- the table with one range set anew
-abbrev pub with_range : ℕ → Range → RangeTable → RangeTable
-with_range r range t = record t { ranges = slice_set t.ranges r (Some range) }
+abbrev pub with_range_set : ℕ → Range → RangeTable → RangeTable
+with_range_set r range t = record t { ranges = slice_set t.ranges r (Some range) }
 
 -- the table with one range released
 abbrev pub without_range : ℕ → RangeTable → RangeTable
@@ -41,12 +41,12 @@ without_range r t = record t { ranges = slice_set t.ranges r None }
 
 -- a range is set to another, where there is one, and nothing else changes
 abbrev pub RangeIsSet : ℕ → Option Range → RangeTable → RangeTable → Type 0
-RangeIsSet r range old new = IfSome range (λ it. new ≡ with_range r it old)
+RangeIsSet r range old new = IfSome range (λ it. new ≡ with_range_set r it old)
 
 -- a live range becomes what is made of it, and nothing else changes
 abbrev pub RangeBecomes : ℕ → (Range → Range) → RangeTable → RangeTable → Type 0
 RangeBecomes r change old new =
-    IfSome (range_in old r) (λ range. new ≡ with_range r (change range) old)
+    IfSome (range_in old r) (λ range. new ≡ with_range_set r (change range) old)
 
 -- the nodes in which ends of live ranges stand
 abbrev pub live_nodes : RangeTable → List ℕ

@@ -1,16 +1,16 @@
 //! Live and static ranges (DOM Standard, "Ranges").
 #![tactic(auto)]
 
-mod adjusting;
-mod chains;
-mod counts;
+mod end_counts;
 pub mod laws;
-mod numbers;
-mod ranges;
-mod setting;
+mod live_range_adjustment;
+mod live_ranges;
+mod range_ends;
+mod range_id;
+mod set_ends;
 mod shift;
-mod statics;
+mod static_ranges;
 
-pub use numbers::{OfRange, RangeId};
-pub use ranges::Ranges;
-pub use statics::{OfStatic, StaticId, Statics};
+pub use range_id::{OfRange, RangeId};
+pub use live_ranges::Ranges;
+pub use static_ranges::{OfStatic, StaticId, Statics};

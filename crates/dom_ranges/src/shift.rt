@@ -3,7 +3,7 @@
 ghost use Rattle.std.specs.Prelude.{◌≡◌, ◌^◌, ◌<◌};
 ghost use Rattle.dom_model.specs.BoundaryPoints.Points.{after_split, after_merge};
 ghost use Rattle.dom_ranges.specs.Ends.{moved_end};
-ghost use Rattle.dom_ranges.specs.Shifting.{shifted, spliced_offset, FitsMovedEnd};
+ghost use Rattle.dom_ranges.specs.Shifts.{shifted, spliced_offset, FitsMovedEnd};
 
 use dom_chains::Change;
 use dom_point::Point;

@@ -1,7 +1,7 @@
-pub mod Texts
-pub mod Calls
-pub mod ByLine
-pub mod Lines
-pub mod Growth
-pub mod Fed
-pub mod Told
+pub mod AppendsLemmas
+pub mod IsCalledLemmas
+pub mod ByLineLemmas
+pub mod LinesLemmas
+pub mod GrowsLemmas
+pub mod FedLemmas
+pub mod ServesPiecesLemmas

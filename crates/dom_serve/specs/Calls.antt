@@ -1,7 +1,7 @@
 -- The calls that were made of a reader or a writer, one after the other: some that did not fail, then at most one that did, and none after it.
 use Rattle.std.specs.Prelude.{◌≡◌, ℕ, zero, suc, Bool, true, false, List, ◌⊎◌}
 use Rattle.dom_serve.specs.Streams.{Reading, Writing}
-use Rattle.dom_serve.specs.Pieces.{Reads}
+use Rattle.dom_serve.specs.Pieces.{ReadsPieces}
 
 -- where a call failed, that one call and no other; else no call
 abbrev pub EndsWith : {S : Type 0} → (S → S → Type 0) → Bool → S → S → Type 0
@@ -21,7 +21,7 @@ IsCalled {S} works fails failed old new =
 -- reads that did not fail, and then, where one failed, that one
 abbrev pub IsRead : {R : Type 0} → Reading R → Bool → R → R → Type 0
 IsRead {R} reading failed old new =
-    (pieces : List (List ℕ)) × (last : R) × Reads reading.gives old pieces last
+    (pieces : List (List ℕ)) × (last : R) × ReadsPieces reading.gives old pieces last
     × EndsWith reading.fails failed last new
 
 -- writes and flushes that did not fail, and then, where one failed, that one

@@ -3,7 +3,7 @@ pub mod Writes
 pub mod Pieces
 pub mod Calls
 pub mod ByLine
-pub mod Tells
+pub mod Output
 pub mod Server
 pub mod Limits
 pub mod Serves

@@ -3,9 +3,9 @@ use Rattle.std.specs.Prelude.{◌≡◌, ℕ, ◌≤◌, Bool, true, false, List
 use Rattle.std.specs.List.{All, AllByRecursion}
 
 -- reads, one after the other, gave these pieces
-abbrev pub Reads : {R : Type 0} → (R → List ℕ → R → Type 0) → R → List (List ℕ) → R → Type 0
-Reads gives old [] new = new ≡ old
-Reads {R} gives old (piece ∷ pieces) new = (mid : R) × gives old piece mid × Reads gives mid pieces new
+abbrev pub ReadsPieces : {R : Type 0} → (R → List ℕ → R → Type 0) → R → List (List ℕ) → R → Type 0
+ReadsPieces gives old [] new = new ≡ old
+ReadsPieces {R} gives old (piece ∷ pieces) new = (mid : R) × gives old piece mid × ReadsPieces gives mid pieces new
 
 abbrev pub is_nothing : List ℕ → Bool
 is_nothing [] = true

@@ -12,15 +12,15 @@ use Rattle.dom_model.specs.Commands.Table.{whole_table}
 use Rattle.dom_model.specs.Commands.Line.{command_of}
 use Rattle.dom_model.specs.Commands.Printed.{reply_line, out_of_memory_line}
 use Rattle.dom_model.specs.Commands.Output.{joined, due, whole_lines, last_piece, lines_of, step_of, world_after}
-use Rattle.dom_wire.specs.Sessions.{Held, StandsFor}
+use Rattle.dom_wire.specs.Sessions.{SessionView, StandsFor}
 use Rattle.dom_serve.specs.declared.fault.Fault.{Fault}
 use Rattle.dom_serve.specs.declared.fault.Fault.TheVariants.{Read, Write, Memory, InputTooLong}
 use Rattle.dom_serve.specs.declared.server.Server.{Server}
 use Rattle.dom_serve.specs.declared.fault.Summary.{Summary}
 use Rattle.dom_serve.specs.Streams.{Reading}
 use Rattle.dom_serve.specs.Writes.{AppendsFront}
-use Rattle.dom_serve.specs.Pieces.{Reads, is_nothing, has_end}
-use Rattle.dom_serve.specs.Tells.{IsCutShort, SaysOutOfMemory}
+use Rattle.dom_serve.specs.Pieces.{ReadsPieces, is_nothing, has_end}
+use Rattle.dom_serve.specs.Output.{IsCutShort, SaysOutOfMemory}
 
 -- the command of the line that is held, of which the bytes were kept unless there were too many
 abbrev pub held_command : List ℕ → Bool → Result Command OwnError
@@ -31,12 +31,12 @@ abbrev pub held_step : Bounds → List ℕ → Bool → World → Step
 held_step b kept too_long w = step_of b (held_command kept too_long) w
 
 -- the session took the step, and this is its reply
-pub record Takes (s : Step) (r : Reply) (new : Held) : Type 0 where
+pub record Takes (s : Step) (r : Reply) (new : SessionView) : Type 0 where
   pub reply_is : r ≡ s.reply
   pub world_is : StandsFor new s.world
 
 -- the session took the step, and the text is its reply
-pub record Prints (s : Step) (text : List ℕ) (new : Held) : Type 0 where
+pub record PrintsStep (s : Step) (text : List ℕ) (new : SessionView) : Type 0 where
   pub text_is : text ≡ reply_line s.reply
   pub world_is : StandsFor new s.world
 
@@ -48,9 +48,9 @@ Fails s taken taken' Memory = Appends taken taken' out_of_memory_line
 Fails s taken taken' InputTooLong = ⊥
 
 -- the session took the step and its reply was written, or that failed
-abbrev pub Answers : {T : Type 0} → Step → Held → Option (List ℕ) → Option (List ℕ) → Result T Fault → Type 0
-Answers s new taken taken' (Ok _) = StandsFor new s.world × Appends taken taken' (reply_line s.reply)
-Answers s new taken taken' (Err fault) = Fails s taken taken' fault
+abbrev pub WritesReply : {T : Type 0} → Step → SessionView → Option (List ℕ) → Option (List ℕ) → Result T Fault → Type 0
+WritesReply s new taken taken' (Ok _) = StandsFor new s.world × Appends taken taken' (reply_line s.reply)
+WritesReply s new taken taken' (Err fault) = Fails s taken taken' fault
 
 -- the out-of-memory line was written, or a front of it
 abbrev pub SaysWant : Option (List ℕ) → Option (List ℕ) → Fault → Type 0
@@ -69,7 +69,7 @@ HoldsPiece limit kept false piece = (piece ≡ kept) × (length kept ≤ limit)
 HoldsPiece limit kept true piece = limit < length piece
 
 -- what a server holds when these bytes have come
-pub record Stands (b : Bounds) (bytes : List ℕ) (s : Server) : Type 0 where
+pub record IsServerAfter (b : Bounds) (bytes : List ℕ) (s : Server) : Type 0 where
   pub world : StandsFor s.session (world_after whole_table b first_world (whole_lines bytes))
   pub bounds : s.session.bounds ≡ b
   pub line : s.line ≡ b.line
@@ -97,7 +97,7 @@ pub record Breaks (before after : List (List ℕ)) (taken taken' : Option (List 
 -- the server took more bytes, up to these
 abbrev pub Fed : {T : Type 0} → Bounds → List ℕ → List ℕ → Server → Option (List ℕ) → Option (List ℕ) → Result T Fault → Type 0
 Fed b bytes bytes' s taken taken' (Ok _) =
-    Stands b bytes' s × Grows (due whole_table b bytes false) (due whole_table b bytes' false) taken taken'
+    IsServerAfter b bytes' s × Grows (due whole_table b bytes false) (due whole_table b bytes' false) taken taken'
 Fed b bytes bytes' s taken taken' (Err fault) =
     Breaks (due whole_table b bytes false) (due whole_table b bytes' false) taken taken' fault
 
@@ -119,11 +119,11 @@ Concludes b bytes taken taken' (Err fault) =
 pub record IsSoFar {R : Type 0} (reading : Reading R) (b : Bounds) (turn : ℕ) (old new : R)
     (s : Server) (taken taken' : Option (List ℕ)) : Type 0 where
   pub pieces : List (List ℕ)
-  pub reads : Reads reading.gives old pieces new
+  pub reads : ReadsPieces reading.gives old pieces new
   pub count : length pieces ≡ turn
   pub sizes : All (λ piece. length piece ≤ 65536) pieces
   pub open_ended : has_end pieces ≡ false
   pub some : AllByRecursion (λ piece. is_nothing piece ≡ false) pieces
   pub consumed : Consumes (reading.left old) (reading.left new) (joined pieces)
-  pub stands : Stands b (joined pieces) s
+  pub stands : IsServerAfter b (joined pieces) s
   pub written : Appends taken taken' (joined (due whole_table b (joined pieces) false))

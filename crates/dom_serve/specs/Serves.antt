@@ -6,31 +6,31 @@ use Rattle.dom_model.specs.Commands.Output.{joined}
 use Rattle.dom_serve.specs.declared.fault.Fault.{Fault}
 use Rattle.dom_serve.specs.declared.fault.Summary.{Summary}
 use Rattle.dom_serve.specs.Streams.{Reading, Writing}
-use Rattle.dom_serve.specs.Pieces.{Reads, AreWithin, EndsOnce}
+use Rattle.dom_serve.specs.Pieces.{ReadsPieces, AreWithin, EndsOnce}
 use Rattle.dom_serve.specs.Calls.{EndsWith, IsWritten, HasPassedOn}
 use Rattle.dom_serve.specs.ByLine.{IsWrittenByLine}
-use Rattle.dom_serve.specs.Tells.{is_read_fault, is_write_fault, Tells}
+use Rattle.dom_serve.specs.Output.{is_read_fault, is_write_fault, IsOutput}
 
 -- the pieces that reads gave, and what was written for them
-pub record IsTold {R : Type 0} (reading : Reading R) (b : Bounds) (turns : ℕ) (old new : R)
+pub record ServesPieces {R : Type 0} (reading : Reading R) (b : Bounds) (turns : ℕ) (old new : R)
     (taken taken' : Option (List ℕ)) (result : Result Summary Fault) : Type 0 where
   pub pieces : List (List ℕ)
   pub text : List ℕ
   pub last : R
-  pub reads : Reads reading.gives old pieces last
+  pub reads : ReadsPieces reading.gives old pieces last
   pub ends : EndsWith reading.fails (is_read_fault result) last new
   pub within : AreWithin turns pieces
   pub once : EndsOnce pieces
   pub consumed : Consumes (reading.left old) (reading.left new) (joined pieces)
   pub written : Appends taken taken' text
-  pub tells : Tells b turns pieces text result
+  pub tells : IsOutput b turns pieces text result
 
 -- All that serving tells of its reader and its writer, old and new.
 pub record Serves {R W : Type 0} (reading : Reading R) (writing : Writing W)
     (b : Bounds) (turns : ℕ) (reader reader' : R) (writer writer' : W)
     (result : Result Summary Fault) : Type 0 where
   -- what was read, and what was written for it
-  pub told : IsTold reading b turns reader reader'
+  pub told : ServesPieces reading b turns reader reader'
       (writing.taken writer) (writing.taken writer') result
   -- at the end of the input nothing is left
   pub at_end : OnOk result (IsAtEnd (reading.left reader'))

@@ -1,20 +1,20 @@
 //! The server: bytes to lines, lines to replies, replies to bytes, over any reader and writer with the contracts of `Source` and `Sink`.
 #![tactic(auto)]
 
-mod answering;
 mod fault;
-mod feeding;
 mod from_read;
 mod last_error;
 pub mod laws;
+mod line_input;
+mod line_output;
 mod one_read;
 mod replies;
+mod serve_loop;
 mod server;
 mod streams;
 mod to_write;
-mod writing;
 
-pub use answering::{serve, serve_within};
+pub use serve_loop::{serve, serve_within};
 pub use dom_wire::{Limits, ReadError, read_line, write_reply};
 pub use fault::{Fault, Summary};
 pub use from_read::FromRead;
@@ -22,4 +22,4 @@ pub use last_error::LastError;
 pub use one_read::OneRead;
 pub use streams::{Failed, Sink, Source};
 pub use to_write::ToWrite;
-pub use writing::write_line;
+pub use line_output::write_line;

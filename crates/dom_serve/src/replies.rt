@@ -4,21 +4,21 @@ ghost use Rattle.std.specs.Prelude.{◌≡◌, true, false, IfOk};
 ghost use Rattle.dom_model.specs.Worlds.World.{World};
 ghost use Rattle.dom_wire.specs.Sessions.{StandsFor};
 ghost use Rattle.dom_wire.specs.Sessions.{reply_view};
-ghost use Rattle.dom_wire.specs.Reads.{Reads};
+ghost use Rattle.dom_wire.specs.Reads.{ReadsCommand};
 ghost use Rattle.dom_serve.specs.Calls.{IsWritten};
 ghost use Rattle.dom_serve.specs.ByLine.{IsLine, IsWrittenByLine};
-ghost use Rattle.dom_serve.specs.Tells.{is_write_fault};
-ghost use Rattle.dom_serve.specs.Server.{held_command, held_step, Takes, Prints, Answers};
+ghost use Rattle.dom_serve.specs.Output.{is_write_fault};
+ghost use Rattle.dom_serve.specs.Server.{held_command, held_step, Takes, PrintsStep, WritesReply};
 
 use crate::fault::Fault;
 use crate::streams::{Failed, Sink};
-use crate::writing::{write_line, write_out_of_memory};
+use crate::line_output::{write_line, write_out_of_memory};
 use dom_wire::{Brief, Command, OwnError, ReadError, Reply, Session, read_line, write_reply};
 use std::alloc::{AllocError, Global};
 
 /// Returns the command of a line, or the refusal of its form.
 fn command(alloc: Global, kept: &[u8], too_long: bool) -> Result<Command, ReadError>
-    ensures { Reads result (held_command kept.now too_long) }
+    ensures { ReadsCommand result (held_command kept.now too_long) }
 {
     if too_long {
         return Err(ReadError::Own(OwnError::LineTooLong));
@@ -56,7 +56,7 @@ fn reply_text(
 ) -> Result<Vec<u8>, AllocError>
     ensures line { IfOk result (λ text. IsLine text.items) }
     ensures prints { IfOk result (λ text. (w : World) → StandsFor session.old w →
-        Prints (held_step session.old.bounds kept.now too_long w) text.items session.new) }
+        PrintsStep (held_step session.old.bounds kept.now too_long w) text.items session.new) }
     ensures bounds { session.new.bounds ≡ session.old.bounds }
 {
     match reply(alloc, session, kept, too_long) {
@@ -74,7 +74,7 @@ pub(crate) fn answer<W: Sink>(
     writer: &mut W,
 ) -> Result<(), Fault>
     ensures answers { (w : World) → StandsFor session.old w →
-        Answers (held_step session.old.bounds kept.now too_long w) session.new
+        WritesReply (held_step session.old.bounds kept.now too_long w) session.new
         (W.writing.taken writer.old) (W.writing.taken writer.new) result }
     ensures bounds { session.new.bounds ≡ session.old.bounds }
     ensures passed { is_write_fault result ≡ false → W.writing.is_passed_on writer.new ≡ true }

@@ -8,9 +8,9 @@ use Rattle.dom_model.specs.Commands.Reply as model_reply
 use Rattle.dom_model.proofs.Counting.{CountsOfExtraction.IsGrownTo, CountsOfExtraction.extract-grown, CountsOfExtraction.surround-to, CopiesOfContents.clone_contents-grown, NumbersKept.in_order}
 use Rattle.dom_ranges.specs.Tables.{range_in}
 use Rattle.dom_edit.specs.{declared.world.World.World, Whole.IsWhole, Whole.Keeps, Whole.Shows, Whole.unwatched}
-use Rattle.dom_edit.proofs.Leaving.{sound-unwatched}
-use Rattle.dom_wrap.specs.Outcomes.{left_by}
-use Rattle.dom_session.proofs.{Stepping.guarded-none, TreeEdits.not-none, NodeData.guarded-past_node, NodeData.guarded-past_room, Unfelt.Beside, Unfelt.beside, Unfelt.insert_node-refusal, Unfelt.surround-refusal}
+use Rattle.dom_edit.proofs.RemoveLemmas.{sound-unwatched}
+use Rattle.dom_wrap.specs.Outcomes.{world_after_outcome}
+use Rattle.dom_session.proofs.{GuardedLemmas.guarded-none, TreeEdits.not-none, NodeData.guarded-past_node, NodeData.guarded-past_room, UnobservedLemmas.Beside, UnobservedLemmas.beside, UnobservedLemmas.insert_node-refusal, UnobservedLemmas.surround-refusal}
 
 -- Numbers that are left.
 
@@ -29,18 +29,18 @@ module _ (v : World) (numbers : ℕ) (limit : numbers ≤ 4294967295) (room : na
       let g = clone_contents-grown r (unwatched v) (in_order (unwatched v) (sound-unwatched v whole)) in
       room-within numbers v.tree.made (size v.tree.forest) 3 (clone_contents r (unwatched v)).made limit room g.most (omega arith)
 
-  pub room-surround : (n : ℕ) → (left_by (surround r n (unwatched v)) (unwatched v)).made ≤ 4294967295
+  pub room-surround : (n : ℕ) → (world_after_outcome (surround r n (unwatched v)) (unwatched v)).made ≤ 4294967295
   room-surround n =
-      room-within numbers v.tree.made (size v.tree.forest) 4 (left_by (surround r n (unwatched v)) (unwatched v)).made limit room
+      room-within numbers v.tree.made (size v.tree.forest) 4 (world_after_outcome (surround r n (unwatched v)) (unwatched v)).made limit room
       (left-grown (surround r n (unwatched v)) (surround-to r n (unwatched v))) (omega arith)
     where
-      left-grown : (o : Outcome) → IsGrownTo (2 * size v.tree.forest + 4) (unwatched v) o → (left_by o (unwatched v)).made ≤ v.tree.made + (2 * size v.tree.forest + 4)
+      left-grown : (o : Outcome) → IsGrownTo (2 * size v.tree.forest + 4) (unwatched v) o → (world_after_outcome o (unwatched v)).made ≤ v.tree.made + (2 * size v.tree.forest + 4)
       left-grown (Ok w) g = g.most
       left-grown (Err e) g = omega arith
 
 -- Steps that may refuse.
 
-done-of : (o : Outcome) (w : model.World) → refusal_in o ≡ None → done_or_refused o w ≡ does (left_by o w)
+done-of : (o : Outcome) (w : model.World) → refusal_in o ≡ None → done_or_refused o w ≡ does (world_after_outcome o w)
 done-of (Ok x) w h = refl
 done-of (Err e) w h = absurd (cc h)
 
@@ -118,7 +118,7 @@ module _ (v : World) (b : Bounds) (w : model.World) (shown : Shows v w) (r : ℕ
     insert-same : refusal_in (insert_node r n w) ≡ refusal_in (insert_node r n (unwatched v))
     insert-same = insert_node-refusal r n (unwatched v) w (beside-unwatched v w shown.keeps)
 
-    pub answer-insert_node : nat_lt b.numbers (v.tree.made + 1) ≡ false → refusal_in (insert_node r n (unwatched v)) ≡ None → answer b w (InsertNode r n) ≡ does (left_by (insert_node r n w) w)
+    pub answer-insert_node : nat_lt b.numbers (v.tree.made + 1) ≡ false → refusal_in (insert_node r n (unwatched v)) ≡ None → answer b w (InsertNode r n) ≡ does (world_after_outcome (insert_node r n w) w)
     answer-insert_node room allowed = insert-past room ∙ done-of (insert_node r n w) w (insert-same ∙ allowed)
 
     pub refused-insert_node : (e : DomError) → nat_lt b.numbers (v.tree.made + 1) ≡ false → refusal_in (insert_node r n (unwatched v)) ≡ Some e → answer b w (InsertNode r n) ≡ refused (model_reply.Dom e) w
@@ -132,7 +132,7 @@ module _ (v : World) (b : Bounds) (w : model.World) (shown : Shows v w) (r : ℕ
     surround-same : check_whole_surround r n w ≡ check_whole_surround r n (unwatched v)
     surround-same = surround-refusal r n (unwatched v) w (beside-unwatched v w shown.keeps)
 
-    pub answer-surround : nat_lt b.numbers (v.tree.made + (2 * size v.tree.forest + 8)) ≡ false → check_whole_surround r n (unwatched v) ≡ None → answer b w (SurroundContents r n) ≡ does (left_by (surround r n w) w)
+    pub answer-surround : nat_lt b.numbers (v.tree.made + (2 * size v.tree.forest + 8)) ≡ false → check_whole_surround r n (unwatched v) ≡ None → answer b w (SurroundContents r n) ≡ does (world_after_outcome (surround r n w) w)
     answer-surround room allowed = surround-past room ∙ done-of (surround r n w) w (surround-same ∙ allowed)
 
     pub refused-surround : (e : DomError) → nat_lt b.numbers (v.tree.made + (2 * size v.tree.forest + 8)) ≡ false → check_whole_surround r n (unwatched v) ≡ Some e → answer b w (SurroundContents r n) ≡ refused (model_reply.Dom e) w

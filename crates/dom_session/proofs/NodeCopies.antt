@@ -7,7 +7,7 @@ use Rattle.dom_model.specs.Worlds.World as model
 use Rattle.dom_model.specs.Commands.Reply as model_reply
 use Rattle.dom_model.proofs.Counting.CountsOfContents.{size-original}
 use Rattle.dom_edit.specs.{declared.world.World.World, Whole.Shows, Refusals.check_adopt}
-use Rattle.dom_session.specs.Limiting.{numbered}
+use Rattle.dom_session.specs.AnswerBounds.{numbered}
 use Rattle.dom_session.proofs.TreeEdits.{not-none, throws-some, throws-none}
 
 -- where enough numbers are left for copies, a copy of a node has room

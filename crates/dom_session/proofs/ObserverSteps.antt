@@ -1,15 +1,15 @@
 -- The steps that change the observers and nothing else, from a world that is shown.
 use Rattle.std.proofs.Common.{◌≡◌, ℕ, ◌+◌, nat_lt, true, false, List, [], ◌∷◌, length, subst, Option, Some, None, Ok, Err, refl, sym, ap, ◌∙◌, is_some}
 use Rattle.dom_model.specs.declared.DomError.{DomError}
-use Rattle.dom_model.specs.Definitions.{HasNode, entry_in, Observing, Options, Command, CreateObserver, Observe, Disconnect, TakeRecords, Notify, ReleaseObserver, TakePending, TellObserver, GivenOptions, is_refusal, Bounds, answer, with_observing, options_refusal, options_of, settled, settled_unless, has_observer, with_observer, observed, disconnected, released_observer, queue_of, records_taken, told, after_notify, pending_taken, observer_told, Record, Told}
+use Rattle.dom_model.specs.Definitions.{HasNode, entry_in, Observing, Options, Command, CreateObserver, Observe, Disconnect, TakeRecords, Notify, ReleaseObserver, TakePending, TellObserver, GivenOptions, is_refusal, Bounds, answer, with_observing, options_refusal, options_of, settled, settled_unless, has_observer, with_observer, observed, disconnected, released_observer, queue_of, records_taken, notifications, after_notify, pending_taken, observer_told, Record, Notification}
 use Rattle.dom_model.specs.Worlds.World as model
 use Rattle.dom_model.specs.Commands.Reply as model_reply
 use Rattle.dom_model.proofs.PlainLists.Numbers.{same_or, same, apart}
-use Rattle.dom_observe.specs.{Held.NamesHeld, Held.NamesOnly, Watchers.Watchers, Watchers.Watches, Watchers.queue_in}
-use Rattle.dom_observe.proofs.HeldNames.{held-after}
+use Rattle.dom_observe.specs.{ObservedNodes.NamesHeld, ObservedNodes.NamesOnly, Watchers.Watchers, Watchers.Watches, Watchers.queue_in}
+use Rattle.dom_observe.proofs.NamesHeldLemmas.{held-after}
 use Rattle.dom_edit.specs.{declared.world.World.World, Whole.IsWhole, Whole.Shows}
-use Rattle.dom_session.specs.{declared.reply.Reply.Reply, Views.reply_view, Stands.IsStep}
-use Rattle.dom_session.proofs.{Stepping.step-follows, Stepping.step-stays, TreeEdits.not-none}
+use Rattle.dom_session.specs.{declared.reply.Reply.Reply, Views.reply_view, SessionViews.IsStep}
+use Rattle.dom_session.proofs.{GuardedLemmas.step-follows, GuardedLemmas.step-stays, TreeEdits.not-none}
 
 module _ (v : World) (whole : IsWhole v) where
   -- observers that name what is there
@@ -57,7 +57,7 @@ module _ (v : World) (whole : IsWhole v) where
   step-take b i records o reply there said are watched only =
       step-observers b (TakeRecords i) reply o (records_taken i) (ap is_refusal said) (λ w s. rw (said, is-there i there w s, are w.observing s.watched) refl) watched (names-none o only)
 
-  pub step-notify : (b : Bounds) (all : List Told) (o : Watchers) (reply : Reply) → reply_view reply ≡ model_reply.Done (model_reply.Notified all) → ((x : Observing) → Watches v.observers x → all ≡ told x) → ((x : Observing) → Watches v.observers x → Watches o (after_notify x)) → NamesOnly [] v.observers o → IsStep v (record v { observers = o }) b Notify reply
+  pub step-notify : (b : Bounds) (all : List Notification) (o : Watchers) (reply : Reply) → reply_view reply ≡ model_reply.Done (model_reply.Notified all) → ((x : Observing) → Watches v.observers x → all ≡ notifications x) → ((x : Observing) → Watches v.observers x → Watches o (after_notify x)) → NamesOnly [] v.observers o → IsStep v (record v { observers = o }) b Notify reply
   step-notify b all o reply said are watched only =
       step-observers b Notify reply o after_notify (ap is_refusal said) (λ w s. rw (said, are w.observing s.watched) refl) watched (names-none o only)
 

@@ -5,8 +5,8 @@ use Rattle.dom_model.specs.Definitions.{Command, Bounds, Step, guarded, answer, 
 use Rattle.dom_model.specs.Worlds.World as model
 use Rattle.dom_model.specs.Commands.Reply as model_reply
 use Rattle.dom_edit.specs.declared.world.World.{World}
-use Rattle.dom_session.specs.{declared.reply.Reply.Reply, Refusing.kind_refusal, Stands.IsStep, Views.reply_view}
-use Rattle.dom_session.proofs.Stepping.{guarded-some, step-stays}
+use Rattle.dom_session.specs.{declared.reply.Reply.Reply, Refusals.kind_refusal, SessionViews.IsStep, Views.reply_view}
+use Rattle.dom_session.proofs.GuardedLemmas.{guarded-some, step-stays}
 
 pub step-other_kind : (v : World) (b : Bounds) (c : Command) (test : Kind → Bool) (n : ℕ) (reply : Reply) (cs : List (Bool × model_reply.Reply)) (s : model.World → Step)
     → ((w : model.World) → answer b w c ≡ guarded (no_node n w ∷ wrong_kind test n w ∷ cs) w (s w)) → Some (reply_view reply) ≡ kind_refusal test v n → IsStep v v b c reply

@@ -4,17 +4,17 @@ use Rattle.dom_model.specs.declared.{Kind.TheVariants.Document, DomError.DomErro
 use Rattle.dom_model.specs.Definitions.{Forest, entry_in, parent_of, index_of, unit_count, Content, Point, Range, CreateRange, CloneRange, SetStart, SetEnd, SetStartBefore, SetStartAfter, SetEndBefore, SetEndAfter, Collapse, SelectNode, SelectNodeContents, ComparePoint, IsPointInRange, CreateStaticRange, Bounds, answer, sets_start, sets_end, first_refusal, is_of_kind, same_root, start_set, end_set, point_before, point_after, around, contents_of, collapsed_at, collapsed, check_point, check_parent, check_contents, place_against, is_point_in, check_static}
 use Rattle.dom_model.specs.Worlds.World as model
 use Rattle.dom_model.specs.Commands.Reply as model_reply
-use Rattle.dom_ranges.specs.Tables.{range_in, refused}
+use Rattle.dom_ranges.specs.Tables.{range_in, result_of_check}
 use Rattle.dom_edit.specs.{declared.world.World.World, Whole.Shows}
 use Rattle.dom_session.proofs.TreeEdits.{not-none}
 
 -- an answer without refusal
-pub passed : (o : Option DomError) (u : Unit {0}) → Ok u ≡ refused o → o ≡ None
+pub passed : (o : Option DomError) (u : Unit {0}) → Ok u ≡ result_of_check o → o ≡ None
 passed None u h = refl
 passed (Some e) u h = absurd (cc h)
 
 -- the refusal that an answer tells
-pub told : (o : Option DomError) (e : DomError) → Err e ≡ refused o → o ≡ Some e
+pub told : (o : Option DomError) (e : DomError) → Err e ≡ result_of_check o → o ≡ Some e
 told None e h = absurd (cc h)
 told (Some x) e h = let same : x ≡ e = cc h in ap (λ y. Some y) same
 

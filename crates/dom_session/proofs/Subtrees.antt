@@ -4,11 +4,11 @@ use Rattle.std.proofs.lemmas.{Bool.false≢true, List.drop-drop, List.length-dro
 use Rattle.dom_model.specs.Definitions.{Entry, hits, among, after, from_first, past, Node, Forest, Grove, IsForest, HasNode, entry_in, ancestors, inclusive_descendants}
 use Rattle.dom_model.proofs.Forests.ToTheRoot.{inside-same}
 use Rattle.dom_model.proofs.Forests.TreeOrder.InsideWalks.{IsAt, at-next, here-inside, rest-next, rest-end}
-use Rattle.dom_session.specs.Links.{laid_over}
+use Rattle.dom_session.specs.Neighbours.{laid_over}
 use Rattle.dom_session.specs.Subtree.{node_of, node_before, nodes_of, part_of, subtree_from}
 use Rattle.dom_session.specs.declared.subtree.SubtreeNode.{SubtreeNode}
 use Rattle.dom_session.specs.declared.subtree.SubtreePart.{SubtreePart}
-use Rattle.dom_session.proofs.Laying.{laid_over-set, laid_over-full, laid_over-all}
+use Rattle.dom_session.proofs.LaidOverLemmas.{laid_over-set, laid_over-full, laid_over-all}
 
 -- the walk has come to a node, and those before it are copied
 pub record IsCopying {X R : Type 0} (f : Forest X) (root start : ℕ) (tell : SubtreeNode → R) (old now : List R) (here count : ℕ) : Type 0 where

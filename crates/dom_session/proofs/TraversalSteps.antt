@@ -5,11 +5,11 @@ use Rattle.dom_model.specs.Definitions.{entry_in, Filter, Iterator, Walker, IsSo
 use Rattle.dom_model.specs.Worlds.World as model
 use Rattle.dom_model.specs.Commands.Reply as model_reply
 use Rattle.dom_model.proofs.Soundness.SoundAnswers.{sound-answer}
-use Rattle.dom_traverse.specs.Standing.{iterator_in, walker_in}
+use Rattle.dom_traverse.specs.Items.{iterator_in, walker_in}
 use Rattle.dom_edit.specs.{declared.world.World.World, Whole.IsWhole, Whole.Keeps, Whole.Shows, Whole.IsShown}
-use Rattle.dom_edit.proofs.Following.{whole-sound}
-use Rattle.dom_session.specs.{declared.reply.Reply.Reply, Views.reply_view, Stands.IsStep, Limiting.numbered}
-use Rattle.dom_session.proofs.{Stepping.step-follows, TreeEdits.not-none}
+use Rattle.dom_edit.proofs.FollowsLemmas.{whole-sound}
+use Rattle.dom_session.specs.{declared.reply.Reply.Reply, Views.reply_view, SessionViews.IsStep, AnswerBounds.numbered}
+use Rattle.dom_session.proofs.{GuardedLemmas.step-follows, TreeEdits.not-none}
 
 -- what follows from what there is, where there is one
 pub held-then : {A : Type 0} {Q : Type 0} (o : Option A) → is_some o ≡ true → ((a : A) → o ≡ Some a → Q) → Q

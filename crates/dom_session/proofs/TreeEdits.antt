@@ -5,7 +5,7 @@ use Rattle.dom_model.specs.Definitions.{is_number, first_refusal, Label, is_kind
 use Rattle.dom_model.specs.Worlds.World as model
 use Rattle.dom_model.specs.Commands.Reply as model_reply
 use Rattle.dom_edit.specs.{declared.world.World.World, Whole.Shows, Refusals.check_remove_child, Refusals.check_only_child, Refusals.check_adopt}
-use Rattle.dom_session.specs.Refusing.{lacks_given}
+use Rattle.dom_session.specs.Refusals.{lacks_given}
 
 pub not-none : {A : Type 0} (o : Option A) → is_some o ≡ true → is_none o ≡ false
 not-none None h = absurd (cc h)

@@ -2,7 +2,7 @@
 use Rattle.std.specs.Prelude.{length, count_by, is_some}
 use Rattle.dom_model.specs.Forests.Forest.{size}
 use Rattle.dom_model.specs.Worlds.World as model
-use Rattle.dom_observe.specs.Once.{once}
+use Rattle.dom_observe.specs.WithoutRepeats.{once}
 use Rattle.dom_observe.specs.Watchers.{registrations_in}
 use Rattle.dom_edit.specs.declared.world.World.{World}
 use Rattle.dom_session.specs.declared.in_use.Counts.{Counts}

@@ -5,8 +5,8 @@ use Rattle.dom_model.specs.declared.OwnError.TheVariants.{NoSuchObject}
 use Rattle.dom_model.specs.PlainLists.Lists.{among, from_first}
 use Rattle.dom_model.specs.Forests.Arena.{Entry}
 use Rattle.dom_model.specs.Forests.Forest.{Node, Forest, entry_in, inclusive_descendants}
-use Rattle.dom_session.specs.Links.{laid_over}
-use Rattle.dom_session.specs.Lending.{lent_as}
+use Rattle.dom_session.specs.Neighbours.{laid_over}
+use Rattle.dom_session.specs.BorrowedData.{lent_as}
 use Rattle.dom_session.specs.declared.subtree.SubtreeNode.{SubtreeNode}
 use Rattle.dom_session.specs.declared.subtree.SubtreePart.{SubtreePart}
 

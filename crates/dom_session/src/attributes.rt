@@ -8,13 +8,13 @@ ghost use Rattle.dom_model.specs.Commands.Command.{SetAttribute, GetAttribute, H
 ghost use Rattle.dom_model.specs.Commands.Guards.{Bounds};
 ghost use Rattle.dom_edit.specs.Whole.{IsShown};
 ghost use Rattle.dom_session.specs.Views.{attributes_view};
-ghost use Rattle.dom_session.specs.Stands.{IsStep, Tells};
-ghost use Rattle.dom_session.specs.Ending.{IsKept};
+ghost use Rattle.dom_session.specs.SessionViews.{IsStep, RepliesTo};
+ghost use Rattle.dom_session.specs.OutOfMemory.{KeepsWholeWorld};
 ghost use Rattle.dom_session.specs.GoingOn.{goes_on};
 
 use crate::brief::Brief;
 use crate::command::Attributes;
-use crate::refusing::kind_refusal;
+use crate::refusals::kind_refusal;
 use crate::reply::{Answer, Reply};
 use dom_edit::{Content, World};
 use dom_kinds::{DomError, Kind, is_attribute_name};
@@ -33,7 +33,7 @@ pub(crate) fn set_attribute(
     requires shown { IsShown world.old }
     ensures step { IfOk result (λ reply. (b : Bounds) →
         IsStep world.old world.new b (SetAttribute element (string_bytes name) value) reply) }
-    ensures left { OnErr result (IsKept world.old world.new) }
+    ensures left { OnErr result (KeepsWholeWorld world.old world.new) }
 {
     if let Some(reply) = kind_refusal(world, element, Kind::Element) {
         return Ok(reply);
@@ -101,7 +101,7 @@ fn has_in(tree: &Tree<Content>, element: NodeId, name: &str) -> bool
 pub(crate) fn has_attribute(world: &World, element: NodeId, name: &str) -> Reply
     ensures step { (b : Bounds) →
         IsStep world.now world.now b (HasAttribute element name.now) result }
-    ensures own { Tells world.now (HasAttribute element name.now) result }
+    ensures own { RepliesTo world.now (HasAttribute element name.now) result }
 {
     if let Some(reply) = kind_refusal(world, element, Kind::Element) {
         return reply;
@@ -118,7 +118,7 @@ pub(crate) fn remove_attribute(
     requires shown { IsShown world.old }
     ensures step { IfOk result (λ reply. (b : Bounds) →
         IsStep world.old world.new b (RemoveAttribute element name.now) reply) }
-    ensures left { OnErr result (IsKept world.old world.new) }
+    ensures left { OnErr result (KeepsWholeWorld world.old world.new) }
 {
     if let Some(reply) = kind_refusal(world, element, Kind::Element) {
         return Ok(reply);
@@ -138,7 +138,7 @@ pub(crate) fn toggle_attribute(
     requires shown { IsShown world.old }
     ensures step { IfOk result (λ reply. (b : Bounds) →
         IsStep world.old world.new b (ToggleAttribute element (string_bytes name) force) reply) }
-    ensures left { OnErr result (IsKept world.old world.new) }
+    ensures left { OnErr result (KeepsWholeWorld world.old world.new) }
 {
     if let Some(reply) = kind_refusal(world, element, Kind::Element) {
         return Ok(reply);
@@ -190,7 +190,7 @@ pub(crate) fn change_attributes(
     requires shown { IsShown world.old }
     ensures step { IfOk result (λ reply. (b : Bounds) →
         IsStep world.old world.new b (attributes_view command) reply) }
-    ensures left { OnErr result (IsKept world.old world.new) }
+    ensures left { OnErr result (KeepsWholeWorld world.old world.new) }
     ensures unchanged { goes_on (attributes_view command) ≡ true →
         OnErr result (world.new ≡ world.old) }
 {

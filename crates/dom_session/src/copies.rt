@@ -7,10 +7,10 @@ ghost use Rattle.dom_model.specs.Commands.Command.{ImportNode, CloneNode, IsEqua
 ghost use Rattle.dom_model.specs.Commands.Guards.{Bounds};
 ghost use Rattle.dom_edit.specs.Whole.{IsShown};
 ghost use Rattle.dom_session.specs.Views.{copying_view};
-ghost use Rattle.dom_session.specs.Stands.{IsStep};
-ghost use Rattle.dom_session.specs.Ending.{IsKept};
+ghost use Rattle.dom_session.specs.SessionViews.{IsStep};
+ghost use Rattle.dom_session.specs.OutOfMemory.{KeepsWholeWorld};
 ghost use Rattle.dom_session.specs.GoingOn.{goes_on};
-ghost use Rattle.dom_session.specs.Limiting.{numbered};
+ghost use Rattle.dom_session.specs.AnswerBounds.{numbered};
 
 use crate::brief::Brief;
 use crate::command::Copying;
@@ -45,7 +45,7 @@ pub(crate) fn import_node(
     requires shown { IsShown world.old }
     ensures step { IfOk result (IsStep world.old world.new (numbered numbers)
         (ImportNode document node deep)) }
-    ensures left { OnErr result (IsKept world.old world.new) }
+    ensures left { OnErr result (KeepsWholeWorld world.old world.new) }
 {
     if !world.tree.holds(document) || !world.tree.holds(node) {
         return Ok(Reply::Brief(Brief::Own(OwnError::NoSuchObject)));
@@ -74,7 +74,7 @@ pub(crate) fn clone_node(
     requires shown { IsShown world.old }
     ensures step { IfOk result (IsStep world.old world.new (numbered numbers)
         (CloneNode node deep)) }
-    ensures left { OnErr result (IsKept world.old world.new) }
+    ensures left { OnErr result (KeepsWholeWorld world.old world.new) }
 {
     if !world.tree.holds(node) {
         return Ok(Reply::Brief(Brief::Own(OwnError::NoSuchObject)));
@@ -121,7 +121,7 @@ pub(crate) fn contains(world: &World, node: NodeId, other: Option<NodeId>) -> Re
 }
 
 // Caches the indices that decide which of two nodes comes first, for the next question.
-fn find_order(world: &mut World, node: NodeId, other: NodeId)
+fn cache_order(world: &mut World, node: NodeId, other: NodeId)
     requires held { HasNode world.old.tree.forest node }
     requires other_held { HasNode world.old.tree.forest other }
     ensures { world.new ≡ world.old }
@@ -144,7 +144,7 @@ pub(crate) fn compare_position(world: &mut World, node: NodeId, other: NodeId) -
     if !world.tree.holds(node) || !world.tree.holds(other) {
         return Reply::Brief(Brief::Own(OwnError::NoSuchObject));
     }
-    find_order(world, node, other);
+    cache_order(world, node, other);
     let position = dom_clone::position(&world.tree, node, other);
     Reply::Brief(Brief::Number(u32::from(position)))
 }
@@ -160,7 +160,7 @@ pub(crate) fn copy_nodes(
     requires shown { IsShown world.old }
     ensures step { IfOk result (IsStep world.old world.new (numbered numbers)
         (copying_view command)) }
-    ensures left { OnErr result (IsKept world.old world.new) }
+    ensures left { OnErr result (KeepsWholeWorld world.old world.new) }
     ensures unchanged { goes_on (copying_view command) ≡ true →
         OnErr result (world.new ≡ world.old) }
 {

@@ -1,12 +1,12 @@
 //! The replies that a session gives.
 
 ghost use Rattle.std.specs.Prelude.{◌≡◌};
-ghost use Rattle.dom_session.specs.Refusing.{reply_to};
+ghost use Rattle.dom_session.specs.Refusals.{reply_to};
 
 use crate::brief::Brief;
 use dom_edit::{Content, Refusal};
 use dom_kinds::Label;
-use dom_observe::{Record, Told};
+use dom_observe::{Record, Notification};
 use dom_point::Point;
 use dom_tree::NodeId;
 use dom_units::Units;
@@ -81,7 +81,7 @@ pub enum Answer {
     /// The records that were taken.
     Records(Vec<Record>),
     /// The notified observers, each with its records.
-    Notified(Vec<Told>),
+    Notified(Vec<Notification>),
 }
 
 /// The reply to a command.

@@ -8,29 +8,29 @@ ghost use Rattle.dom_model.specs.Commands.Reply.{is_refusal};
 ghost use Rattle.dom_model.specs.Commands.Answer.{answer};
 ghost use Rattle.dom_session.specs.Brief.{reply_of};
 ghost use Rattle.dom_session.specs.Views.{command_view, making_view, editing_view, reading_view, reply_view};
-ghost use Rattle.dom_session.specs.Stands.{StandsFor, IsAnswered, held_world};
-ghost use Rattle.dom_session.specs.Ending.{IsLeft, IsAsBefore};
+ghost use Rattle.dom_session.specs.SessionViews.{StandsFor, IsAnswered, held_world};
+ghost use Rattle.dom_session.specs.OutOfMemory.{IsLeft, IsAsBefore};
 ghost use Rattle.dom_session.specs.GoingOn.{is_question, goes_on};
-ghost use Rattle.dom_session.specs.Bounding.{bounds_of};
+ghost use Rattle.dom_session.specs.SessionBounds.{bounds_of};
 ghost use Rattle.dom_session.specs.InUse.{in_use_of, in_use_in};
-ghost use Rattle.dom_session.specs.Links.{links_in, first_child_in, last_child_in, child_in, count_in, laid_over};
-ghost use Rattle.dom_session.specs.Lending.{lent_as, lent_whole, label_in, data_in, attribute_in};
+ghost use Rattle.dom_session.specs.Neighbours.{links_in, first_child_in, last_child_in, child_in, child_count_in, laid_over};
+ghost use Rattle.dom_session.specs.BorrowedData.{lent_as, lent_whole, label_of_node, data_in, attribute_of_node};
 ghost use Rattle.dom_session.specs.Subtree.{part_in, laid_in};
 ghost use Rattle.dom_attrs.specs.Entries.{attribute_at};
 
-use crate::answering::answered;
+use crate::dispatch::answered;
 use crate::attributes::has_attribute;
 use crate::brief::Brief;
 use crate::command::{Command, Editing, Making, Reading};
-use crate::editing::edit_tree;
+use crate::tree_edits::edit_tree;
 use crate::going_on::goes_on;
 use crate::in_use::{self, Counts};
-use crate::links::{self, Links};
-use crate::making::{create_element, create_text, make_nodes};
+use crate::neighbours::{self, Neighbours};
+use crate::node_creation::{create_element, create_text, make_nodes};
 use crate::reply::Reply;
 use crate::subtree::{self, NodeRow, SubtreePart};
-use crate::traversing::{next_node, previous_node, walk};
-use crate::{lending, reading};
+use crate::traversal::{next_node, previous_node, walk};
+use crate::{borrowed_data, read_only};
 use dom_edit::World;
 use dom_kinds::Label;
 use dom_model::{Move, OwnError};
@@ -70,16 +70,16 @@ pub struct Session {
 }
 
 impl Model for Session {
-    ghost use Rattle.dom_session.specs.Stands.{Held};
+    ghost use Rattle.dom_session.specs.SessionViews.{SessionView};
     ghost use Rattle.std.specs.Coded.{codes};
     ghost use Rattle.dom_model.specs.Forests.ForestCode.{grove_code};
     ghost use Rattle.dom_session.specs.Codes.{content_code};
 
-    ghost Value = { Held };
+    ghost Value = { SessionView };
 
     ghost coded = { Prim.hlevel (codes, grove_code content_code) };
 
-    ghost use Rattle.dom_session.specs.Bounding.{bounds_of};
+    ghost use Rattle.dom_session.specs.SessionBounds.{bounds_of};
 
     ghost view = { λ s. record { world = s.world; bounds = bounds_of s.limits; ended = s.ended } };
 
@@ -338,7 +338,7 @@ impl Session {
             ≡ (answer self.old.bounds (held_world self.old) (reading_view question)).reply }
         ensures unchanged { self.new ≡ self.old }
     {
-        reading::read(&mut self.world, question)
+        read_only::read(&mut self.world, question)
     }
 
     /// Returns whether an element has an attribute, from a borrowed name, as `apply` does. After its end a session answers from the
@@ -355,11 +355,11 @@ impl Session {
     /// Returns a node's kind and its neighbours, in constant time. It applies no command and takes no memory.
     ///
     /// Like each call that reads, it also answers after the session's end, from the world that the last call left.
-    pub fn links(&self, node: NodeId) -> Result<Links, OwnError>
+    pub fn links(&self, node: NodeId) -> Result<Neighbours, OwnError>
         ensures shown { (w : PlainWorld) → StandsFor self.now w → result ≡ links_in w.forest node }
         ensures own { result ≡ links_in self.now.world.tree.forest node }
     {
-        links::links_at(&self.world.tree, node)
+        neighbours::links_at(&self.world.tree, node)
     }
 
     /// Returns the first child of a node, if any, in constant time.
@@ -368,7 +368,7 @@ impl Session {
             result ≡ first_child_in w.forest node }
         ensures own { result ≡ first_child_in self.now.world.tree.forest node }
     {
-        links::first_child(&self.world.tree, node)
+        neighbours::first_child(&self.world.tree, node)
     }
 
     /// Returns the last child of a node, if any, in constant time.
@@ -377,7 +377,7 @@ impl Session {
             result ≡ last_child_in w.forest node }
         ensures own { result ≡ last_child_in self.now.world.tree.forest node }
     {
-        links::last_child(&self.world.tree, node)
+        neighbours::last_child(&self.world.tree, node)
     }
 
     /// Returns the child of a node at an index, if any. It walks from the nearer end.
@@ -386,20 +386,20 @@ impl Session {
             result ≡ child_in index w.forest node }
         ensures own { result ≡ child_in index self.now.world.tree.forest node }
     {
-        links::child_at(&self.world.tree, node, index)
+        neighbours::child_at(&self.world.tree, node, index)
     }
 
     /// Copies the numbers of a node's children over the front of a slice, as far as there is room, and returns the number of
     /// children.
     pub fn copy_children(&self, node: NodeId, into: &mut [u32]) -> Result<usize, OwnError>
-        ensures count { (w : PlainWorld) → StandsFor self.now w → result ≡ count_in w.forest node }
+        ensures count { (w : PlainWorld) → StandsFor self.now w → result ≡ child_count_in w.forest node }
         ensures copied { (w : PlainWorld) → StandsFor self.now w →
             into.new ≡ laid_over (children_of w.forest node) into.old }
-        ensures own_count { result ≡ count_in self.now.world.tree.forest node }
+        ensures own_count { result ≡ child_count_in self.now.world.tree.forest node }
         ensures own_copied { into.new ≡ laid_over (children_of self.now.world.tree.forest node)
             into.old }
     {
-        links::copy_children(&self.world.tree, node, into)
+        neighbours::copy_children(&self.world.tree, node, into)
     }
 
     /// Copies the nodes of the subtree of `root` over the front of a slice, in tree order from `start` on, as far as there is room. Returns how many,
@@ -427,11 +427,11 @@ impl Session {
     /// Borrows the label of a node: its kind and its names.
     pub fn label_of(&self, node: NodeId) -> Result<&Label, OwnError>
         ensures shown { (w : PlainWorld) → StandsFor self.now w →
-            lent_whole (λ label. label.now) result ≡ label_in w.forest node }
+            lent_whole (λ label. label.now) result ≡ label_of_node w.forest node }
         ensures own { lent_whole (λ label. label.now) result
-            ≡ label_in self.now.world.tree.forest node }
+            ≡ label_of_node self.now.world.tree.forest node }
     {
-        lending::label_of(&self.world.tree, node)
+        borrowed_data::label_of(&self.world.tree, node)
     }
 
     /// Borrows the data of a node; none if its kind has no data.
@@ -441,7 +441,7 @@ impl Session {
         ensures own { lent_as (λ units. units.now) result
             ≡ data_in self.now.world.tree.forest node }
     {
-        lending::data_of(&self.world.tree, node)
+        borrowed_data::data_of(&self.world.tree, node)
     }
 
     /// Borrows a node's attribute at a place, its name and its value; none past the last.
@@ -451,11 +451,11 @@ impl Session {
         index: usize,
     ) -> Result<Option<(&str, &Units)>, OwnError>
         ensures shown { (w : PlainWorld) → StandsFor self.now w →
-            lent_as attribute_at result ≡ attribute_in index w.forest node }
-        ensures own { lent_as attribute_at result ≡ attribute_in index self.now.world.tree.forest
+            lent_as attribute_at result ≡ attribute_of_node index w.forest node }
+        ensures own { lent_as attribute_at result ≡ attribute_of_node index self.now.world.tree.forest
             node }
     {
-        lending::attribute_at(&self.world.tree, node, index)
+        borrowed_data::attribute_at(&self.world.tree, node, index)
     }
 
     /// Returns the number of objects of each kind, in constant time. It applies no command and takes no memory.

@@ -3,7 +3,7 @@
 ghost use Rattle.std.specs.Prelude.{◌≡◌, true, length, map, IfSome};
 ghost use Rattle.dom_model.specs.PlainLists.Lists.{among};
 ghost use Rattle.dom_model.specs.Forests.Forest.{HasNode, entry_in, inclusive_descendants};
-ghost use Rattle.dom_session.specs.Links.{laid_over};
+ghost use Rattle.dom_session.specs.Neighbours.{laid_over};
 ghost use Rattle.dom_session.specs.Subtree.{node_of, part_of, subtree_from, part_in, laid_in};
 
 use dom_kinds::Kind;

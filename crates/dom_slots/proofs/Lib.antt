@@ -1,5 +1,5 @@
-pub mod Entries
-pub mod Fitting
-pub mod Live
-pub mod Places
-pub mod Steps
+pub mod FitLemmas
+pub mod ListPlaceLemmas
+pub mod LiveEntryLemmas
+pub mod SlotEntryLemmas
+pub mod SlotStepLemmas

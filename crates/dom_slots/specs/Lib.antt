@@ -1,2 +1,2 @@
-pub mod Lends
+pub mod Borrows
 pub mod Slotted

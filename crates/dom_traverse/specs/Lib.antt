@@ -1,8 +1,8 @@
-pub mod Courses
 pub mod Ends
-pub mod Exits
-pub mod GivingWay
-pub mod Judging
-pub mod Naming
-pub mod Standing
-pub mod Whereabouts
+pub mod FilterRules
+pub mod Items
+pub mod NamedNodes
+pub mod NewReferences
+pub mod PositionsByNode
+pub mod PreRemoval
+pub mod SiblingWalks

@@ -7,14 +7,14 @@ ghost use Rattle.dom_model.specs.Forests.Forest.{HasNode, ancestors, inclusive_d
 ghost use Rattle.dom_model.specs.Traversal.Filters.{accepts};
 ghost use Rattle.dom_model.specs.Traversal.Iterators.{next_found, previous_found, moved_to_next, moved_to_previous};
 ghost use Rattle.dom_model.specs.MutationAlgorithms.PreRemoval.{pre_removed};
-ghost use Rattle.dom_traverse.specs.Exits.{IsExit, gone_by};
-ghost use Rattle.dom_traverse.specs.GivingWay.{stepped_at};
-ghost use Rattle.dom_traverse.specs.Standing.{StandsInside};
+ghost use Rattle.dom_traverse.specs.NewReferences.{IsExit, gone_by};
+ghost use Rattle.dom_traverse.specs.PreRemoval.{stepped_at};
+ghost use Rattle.dom_traverse.specs.Items.{StandsInside};
 
-use crate::exit::Exit;
-use crate::inside::previous_inside;
+use crate::new_reference::NewReference;
+use crate::preceding_and_following::previous_inside;
 use crate::judge::Judge;
-use crate::standing::Standing;
+use crate::positioned::Positioned;
 use dom_tree::{NodeId, Tree};
 use std::marker::Model;
 
@@ -35,7 +35,7 @@ impl Model for NodeIterator {
     ghost view = { λ i. record { root = i.root; reference = i.reference; before = i.before; filter = i.filter } };
 }
 
-impl Standing for NodeIterator {
+impl Positioned for NodeIterator {
     ghost root_of = { λ i. i.root };
 
     ghost node_of = { λ i. i.reference };
@@ -141,7 +141,7 @@ impl NodeIterator {
 
     // Runs the pre-removing steps: moves a reference inside the removed node on if the pointer is before it, or else back. Returns the exit found for
     // the root, or the last one.
-    pub fn removing<X>(&mut self, tree: &Tree<X>, node: NodeId, last: Option<Exit>) -> Option<Exit>
+    pub fn removing<X>(&mut self, tree: &Tree<X>, node: NodeId, last: Option<NewReference>) -> Option<NewReference>
         requires held { HasNode tree.now.forest node }
         requires found { ForSome last (IsExit tree.now.forest node) }
         ensures moved { self.new ≡ pre_removed tree.now.forest node self.old }
@@ -161,8 +161,8 @@ impl NodeIterator {
         tree: &Tree<X>,
         node: NodeId,
         here: NodeId,
-        last: Option<Exit>,
-    ) -> Option<Exit>
+        last: Option<NewReference>,
+    ) -> Option<NewReference>
         requires held { HasNode tree.now.forest node }
         requires inside { among here (inclusive_descendants tree.now.forest node) ≡ true }
         requires found { ForSome last (IsExit tree.now.forest node) }
@@ -177,7 +177,7 @@ impl NodeIterator {
     }
 
     // Does so for a reference known to be inside the removed node.
-    fn leave<X>(&mut self, tree: &Tree<X>, node: NodeId, last: Option<Exit>) -> Option<Exit>
+    fn leave<X>(&mut self, tree: &Tree<X>, node: NodeId, last: Option<NewReference>) -> Option<NewReference>
         requires held { HasNode tree.now.forest node }
         requires inside { among self.old.reference (inclusive_descendants tree.now.forest node)
             ≡ true }
@@ -185,13 +185,13 @@ impl NodeIterator {
         ensures moved { self.new ≡ pre_removed tree.now.forest node self.old }
         ensures found { ForSome result (IsExit tree.now.forest node) }
     {
-        let exit = Exit::for_root(last, tree, node, self.root);
+        let exit = NewReference::for_root(last, tree, node, self.root);
         self.step_off(&exit);
         Some(exit)
     }
 
     // Moves a reference that is inside the removed node.
-    fn step_off(&mut self, exit: &Exit)
+    fn step_off(&mut self, exit: &NewReference)
         ensures { self.new ≡ gone_by exit.now self.old }
     {
         if !exit.loses {

@@ -8,10 +8,10 @@ ghost use Rattle.dom_model.specs.Forests.Forest.{HasNode, inclusive_descendants}
 ghost use Rattle.dom_model.specs.Traversal.Iterators.{new_iterator, next_found, previous_found, moved_to_next, moved_to_previous};
 ghost use Rattle.dom_model.specs.MutationAlgorithms.PreRemoval.{pre_removed_all};
 ghost use Rattle.dom_model.specs.MutationAlgorithms.Discarding.{nodes_unless_released, nodes_of_iterator};
-ghost use Rattle.dom_traverse.specs.Standing.{iterator_in, IteratorBecomes, released, StandsInside};
+ghost use Rattle.dom_traverse.specs.Items.{iterator_in, IteratorBecomes, with_released, StandsInside};
 
 use crate::filter::Filter;
-use crate::giving_way::removing;
+use crate::pre_removal::removing;
 use crate::iterator::NodeIterator;
 use crate::judge::Judge;
 use crate::located::{Located, slot_of};
@@ -138,7 +138,7 @@ impl NodeIterators {
     /// Releases an iterator. It refers to no node any more. It takes no memory.
     pub fn release(&mut self, id: IteratorId)
         requires { IsSome (iterator_in self.old id) }
-        ensures { self.new ≡ released id self.old }
+        ensures { self.new ≡ with_released id self.old }
     {
         self.located.release(id.number());
     }
@@ -157,10 +157,10 @@ impl NodeIterators {
     /// Updates the table of iterators by node, which `refers` uses.
     ///
     /// Takes no memory, and one move for each iterator that stepped or that a removal moved since the last call, however often.
-    pub fn catch_up(&mut self)
+    pub fn flush_pending(&mut self)
         ensures { self.new ≡ self.old }
     {
-        self.located.catch_up();
+        self.located.flush_pending();
     }
 
     /// Returns whether an iterator has its root or reference in a subtree.

@@ -4,7 +4,7 @@ ghost use Rattle.std.specs.Prelude.{◌≡◌, ℕ, List, string_bytes, bytes_eq
 ghost use Rattle.dom_model.specs.declared.Verdict.{Verdict as AVerdict};
 ghost use Rattle.dom_model.specs.Traversal.Filters.{shows, ruled, verdict_on, accepts, rejects};
 ghost use Rattle.dom_model.specs.Forests.Forest.{HasNode};
-ghost use Rattle.dom_traverse.specs.Judging.{known_or, AreRulesByName};
+ghost use Rattle.dom_traverse.specs.FilterRules.{known_or, AreRulesByName};
 
 use crate::filter::{Filter, Rule};
 use dom_kinds::{Kind, NodeType};
@@ -29,7 +29,7 @@ impl Model for Judge {
 
     ghost view = { λ j. j.filter };
 
-    ghost use Rattle.dom_traverse.specs.Judging.{AreRulesByName};
+    ghost use Rattle.dom_traverse.specs.FilterRules.{AreRulesByName};
 
     ghost invariant = { λ j. AreRulesByName j.filter.rules j.verdicts j.others };
 }

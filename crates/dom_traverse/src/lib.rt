@@ -1,21 +1,21 @@
 //! Filters, node iterators and tree walkers (DOM Standard, "Traversal"). A walk goes step by step, over no more nodes than it passes.
 #![tactic(auto)]
 
-mod course;
-mod exit;
 mod filter;
-mod giving_way;
-mod inside;
 mod iterator;
 mod iterators;
 mod judge;
 mod located;
-mod naming;
-mod standing;
+mod new_reference;
+mod positioned;
+mod positions_by_node;
+mod pre_removal;
+mod preceding_and_following;
+mod references;
+mod sibling_walk;
 mod walker;
+mod walker_moves;
 mod walkers;
-mod walks;
-mod whereabouts;
 
 pub use dom_model::{Move, Verdict};
 pub use filter::{Filter, Rule};

@@ -6,14 +6,14 @@ ghost use Rattle.dom_model.specs.PlainLists.Lists.{among};
 ghost use Rattle.dom_model.specs.Forests.Forest.{HasNode, inclusive_descendants};
 ghost use Rattle.dom_model.specs.MutationAlgorithms.Discarding.{nodes_unless_released};
 ghost use Rattle.dom_slots.specs.Slotted.{by_slot};
-ghost use Rattle.dom_traverse.specs.Naming.{named_by};
-ghost use Rattle.dom_traverse.specs.Standing.{item_in, released};
-ghost use Rattle.dom_traverse.specs.Whereabouts.{all_standing, StandOrWait};
+ghost use Rattle.dom_traverse.specs.NamedNodes.{named_by};
+ghost use Rattle.dom_traverse.specs.Items.{item_in, with_released};
+ghost use Rattle.dom_traverse.specs.PositionsByNode.{all_standing, StandOrWait};
 
-use crate::naming::{name, names_inside, unname};
-use crate::standing::{Standing, stands_in};
-use crate::whereabouts::Whereabouts;
-use dom_slots::Slotted;
+use crate::references::{name, names_inside, unname};
+use crate::positioned::{Positioned, stands_in};
+use crate::positions_by_node::PositionsByNode;
+use dom_slots::NumberedItems;
 use dom_tree::{NodeId, Tree};
 use indexmap::IndexMap;
 use std::alloc::{AllocError, Global};
@@ -21,19 +21,19 @@ use std::marker::Model;
 
 // Items with numbers, each with a root and a position. An item that moves is only marked, until a caller asks which are inside a subtree.
 #[derive(Drop)]
-pub(crate) struct Located<T: Standing> {
-    pub(crate) items: Slotted<T>,
+pub(crate) struct Located<T: Positioned> {
+    pub(crate) items: NumberedItems<T>,
     // positions by slot; none while an item is marked as moved
-    pub(crate) whereabouts: Whereabouts,
+    pub(crate) whereabouts: PositionsByNode,
     // how many items have a node as their root, by its number
     roots: IndexMap<u32, u32>,
 }
 
-impl<T: Standing> Model for Located<T> {
+impl<T: Positioned> Model for Located<T> {
     ghost use Rattle.std.specs.Prelude.{List, Option};
     ghost use Rattle.std.specs.Coded.{coded_list, coded_option};
     ghost use Rattle.dom_slots.specs.Slotted.{by_slot};
-    ghost use Rattle.dom_traverse.specs.Naming.{AreFound};
+    ghost use Rattle.dom_traverse.specs.NamedNodes.{AreFound};
 
     ghost Value = { List (Option T) };
 
@@ -45,7 +45,7 @@ impl<T: Standing> Model for Located<T> {
 }
 
 // The slot of an item, for reading and writing.
-pub(crate) fn slot_of<T>(items: &Slotted<T>, number: u32) -> usize
+pub(crate) fn slot_of<T>(items: &NumberedItems<T>, number: u32) -> usize
     requires { IsSome (item_in (by_slot items.now.slots items.now.items) number) }
     ensures within { result < length items.now.items }
     ensures read { item_in (by_slot items.now.slots items.now.items) number
@@ -58,7 +58,7 @@ pub(crate) fn slot_of<T>(items: &Slotted<T>, number: u32) -> usize
 }
 
 // Stores the positions of moved items.
-pub(crate) fn catch_up<T: Standing>(items: &[T], whereabouts: &mut Whereabouts)
+pub(crate) fn flush_pending<T: Positioned>(items: &[T], whereabouts: &mut PositionsByNode)
     requires { StandOrWait T.node_of items.now whereabouts.old }
     ensures { whereabouts.new ≡ all_standing T.node_of items.now }
 {
@@ -68,14 +68,14 @@ pub(crate) fn catch_up<T: Standing>(items: &[T], whereabouts: &mut Whereabouts)
     }
 }
 
-impl<T: Standing> Located<T> {
+impl<T: Positioned> Located<T> {
     // Returns a table without items.
     pub(crate) fn new(alloc: Global) -> Located<T>
         ensures { result ≡ [] }
     {
         Located {
-            items: Slotted::new(alloc),
-            whereabouts: Whereabouts::new(alloc),
+            items: NumberedItems::new(alloc),
+            whereabouts: PositionsByNode::new(alloc),
             roots: IndexMap::new(alloc),
         }
     }
@@ -135,7 +135,7 @@ impl<T: Standing> Located<T> {
     // Removes an item. It refers to no node any more.
     pub(crate) fn release(&mut self, number: u32)
         requires { IsSome (item_in self.old number) }
-        ensures { self.new ≡ released number self.old }
+        ensures { self.new ≡ with_released number self.old }
     {
         let (slot, item) = self.items.release(number);
         self.whereabouts.swap_remove(slot);
@@ -143,10 +143,10 @@ impl<T: Standing> Located<T> {
     }
 
     // Stores the positions of moved items.
-    pub(crate) fn catch_up(&mut self)
+    pub(crate) fn flush_pending(&mut self)
         ensures { self.new ≡ self.old }
     {
-        catch_up(self.items.items(), &mut self.whereabouts);
+        flush_pending(self.items.items(), &mut self.whereabouts);
     }
 
     // Returns the root or position of an item, two for each item; none past the last.
@@ -179,7 +179,7 @@ impl<T: Standing> Located<T> {
 }
 
 // Does so by visiting each item.
-fn refer<T: Standing, X>(items: &[T], tree: &Tree<X>, top: NodeId) -> bool
+fn refer<T: Positioned, X>(items: &[T], tree: &Tree<X>, top: NodeId) -> bool
     requires { HasNode tree.now.forest top }
     ensures { result ≡ list_any (λ m. among m (inclusive_descendants tree.now.forest top))
         (flat_map (named_by T.root_of T.node_of) items.now) }

@@ -2,12 +2,12 @@
 
 ghost use Rattle.std.specs.Prelude.{◌≡◌};
 ghost use Rattle.dom_model.specs.Traversal.Walks.{walk_found, walker_moved};
-ghost use Rattle.dom_traverse.specs.Standing.{StandsThere};
+ghost use Rattle.dom_traverse.specs.Items.{StandsThere};
 
-use crate::course::Side;
+use crate::sibling_walk::Side;
 use crate::judge::Judge;
-use crate::standing::Standing;
-use crate::walks;
+use crate::positioned::Positioned;
+use crate::walker_moves;
 use dom_model::Move;
 use dom_tree::{NodeId, Tree};
 use std::marker::Model;
@@ -28,7 +28,7 @@ impl Model for TreeWalker {
     ghost view = { λ w. record { root = w.root; current = w.current; filter = w.filter } };
 }
 
-impl Standing for TreeWalker {
+impl Positioned for TreeWalker {
     ghost root_of = { λ w. w.root };
 
     ghost node_of = { λ w. w.current };
@@ -64,13 +64,13 @@ impl TreeWalker {
         let filter = &self.filter;
         let (root, current) = (self.root, self.current);
         match direction {
-            Move::ParentNode => walks::parent_node(tree, filter, root, current),
-            Move::FirstChild => walks::child(tree, filter, root, current, Side::First),
-            Move::LastChild => walks::child(tree, filter, root, current, Side::Last),
-            Move::PreviousSibling => walks::sibling(tree, filter, root, current, Side::Last),
-            Move::NextSibling => walks::sibling(tree, filter, root, current, Side::First),
-            Move::PreviousNode => walks::previous_node(tree, filter, root, current),
-            Move::NextNode => walks::next_node(tree, filter, root, current),
+            Move::ParentNode => walker_moves::parent_node(tree, filter, root, current),
+            Move::FirstChild => walker_moves::child(tree, filter, root, current, Side::First),
+            Move::LastChild => walker_moves::child(tree, filter, root, current, Side::Last),
+            Move::PreviousSibling => walker_moves::sibling(tree, filter, root, current, Side::Last),
+            Move::NextSibling => walker_moves::sibling(tree, filter, root, current, Side::First),
+            Move::PreviousNode => walker_moves::previous_node(tree, filter, root, current),
+            Move::NextNode => walker_moves::next_node(tree, filter, root, current),
         }
     }
 }

@@ -7,7 +7,7 @@ ghost use Rattle.dom_model.specs.PlainLists.Lists.{among};
 ghost use Rattle.dom_model.specs.Forests.Forest.{HasNode, inclusive_descendants};
 ghost use Rattle.dom_model.specs.Traversal.Walks.{new_walker, walk_found};
 ghost use Rattle.dom_model.specs.MutationAlgorithms.Discarding.{nodes_unless_released, nodes_of_walker};
-ghost use Rattle.dom_traverse.specs.Standing.{walker_in, WalkerBecomes, with_current, moved_by, released, StandsThere};
+ghost use Rattle.dom_traverse.specs.Items.{walker_in, WalkerBecomes, with_current, moved_by, with_released, StandsThere};
 
 use crate::filter::Filter;
 use crate::judge::Judge;
@@ -132,7 +132,7 @@ impl Walkers {
     /// Releases a walker. It refers to no node any more. It takes no memory.
     pub fn release(&mut self, id: WalkerId)
         requires { IsSome (walker_in self.old id) }
-        ensures { self.new ≡ released id self.old }
+        ensures { self.new ≡ with_released id self.old }
     {
         self.located.release(id.number());
     }
@@ -140,15 +140,15 @@ impl Walkers {
     /// Updates the table of walkers by node, which `refers` uses.
     ///
     /// Takes no memory, and one move for each walker that moved since the last call, however often.
-    pub fn catch_up(&mut self)
+    pub fn flush_pending(&mut self)
         ensures { self.new ≡ self.old }
     {
-        self.located.catch_up();
+        self.located.flush_pending();
     }
 
     /// Returns whether a walker has its root or current node in a subtree.
     ///
-    /// Walks the subtree, or climbs from each walker if that takes fewer steps, or if one moved since the last `catch_up`.
+    /// Walks the subtree, or climbs from each walker if that takes fewer steps, or if one moved since the last `flush_pending`.
     pub fn refers<X>(&self, tree: &Tree<X>, top: NodeId) -> bool
         requires { HasNode tree.now.forest top }
         ensures { result ≡ list_any (λ m. among m (inclusive_descendants tree.now.forest top))

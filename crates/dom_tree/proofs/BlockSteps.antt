@@ -4,8 +4,8 @@ use Rattle.dom_model.specs.Definitions.{place_in, Arena, Entry, entry_at, parent
 use Rattle.dom_model.specs.Forests.Arena.{IsSound}
 use Rattle.dom_model.proofs.PlainLists.{Numbers.same_or, Numbers.same, Numbers.apart, Places.place-there}
 use Rattle.dom_model.proofs.Forests.{Changes.seen, Changes.nothing, Changes.just, Siblings.place-first}
-use Rattle.dom_tree.specs.{Slots.Kept, Slots.index_in, Blocks.ahead_of, Blocks.StandsInBlocks, Blocks.if_in_block}
-use Rattle.dom_tree.proofs.{InBlocks.fits-start, InBlocks.fits-first, InBlocks.fits-order, Written.IsAhead, Written.listed_under, Written.before_here, Written.ahead-next}
+use Rattle.dom_tree.specs.{Slots.Kept, Slots.index_in, Blocks.count_ahead, Blocks.StandsInBlocks, Blocks.if_in_block}
+use Rattle.dom_tree.proofs.{BlockCountLemmas.fits-start, BlockCountLemmas.fits-first, BlockCountLemmas.fits-order, WrittenIndicesLemmas.IsAhead, WrittenIndicesLemmas.listed_under, WrittenIndicesLemmas.before_here, WrittenIndicesLemmas.ahead-next}
 
 module _ {X : Type 0} where
   -- a sibling that stands in the block
@@ -31,20 +31,20 @@ module _ {X : Type 0} {start : Arena (Kept X)} (l : IsSound start) (p : ℕ) {co
   abbrev list : List ℕ
   list = children_in (entry_at start p)
 
-  pub block-few : (child : ℕ) → parent_in (entry_at start child) ≡ Some p → length list < 2 ^ 32 → ahead_of counts (index_in (entry_at start child)) < 2 ^ 32
+  pub block-few : (child : ℕ) → parent_in (entry_at start child) ≡ Some p → length list < 2 ^ 32 → count_ahead counts (index_in (entry_at start child)) < 2 ^ 32
   block-few child e h =
       let listed = listed_under l p child e in
       let a = st.fits.since child listed in
       let b = place-there child list listed in
       omega arith
 
-  pub block-end : {child here passed steps : ℕ} → IsAhead start p child here passed steps → parent_in (entry_at start child) ≡ Some p → passed < steps → index_in (entry_at start here) ≡ index_in (entry_at start child) → None ≡ if_in_block (entry_at start) (previous_in (entry_at start) here) (index_in (entry_at start child)) → ahead_of counts (index_in (entry_at start child)) + passed ≡ place_in child list
+  pub block-end : {child here passed steps : ℕ} → IsAhead start p child here passed steps → parent_in (entry_at start child) ≡ Some p → passed < steps → index_in (entry_at start here) ≡ index_in (entry_at start child) → None ≡ if_in_block (entry_at start) (previous_in (entry_at start) here) (index_in (entry_at start child)) → count_ahead counts (index_in (entry_at start child)) + passed ≡ place_in child list
   block-end {child} {here} {passed} {steps} w ep lt same_block e =
       elim (seen (previous_in (entry_at start) here)) [
         | nothing d ↦
             let z = place-first here list w.listed (sym (before_here l p w) ∙ d) in
             let f = fits-first st.fits here w.listed z in
-            let g = ap (ahead_of counts) same_block in
+            let g = ap (count_ahead counts) same_block in
             let a = w.at in
             omega arith
         | just m d ↦
@@ -54,7 +54,7 @@ module _ {X : Type 0} {start : Arena (Kept X)} (l : IsSound start) (p : ℕ) {co
             let b = n.at in
             let a = w.at in
             let f = fits-start st.fits here m w.listed n.listed (omega arith) (λ q. far (q ∙ same_block)) in
-            let g = ap (ahead_of counts) same_block in
+            let g = ap (count_ahead counts) same_block in
             omega arith
       ]
 

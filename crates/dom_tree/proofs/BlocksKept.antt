@@ -5,9 +5,9 @@ use Rattle.dom_model.specs.Definitions.{hits, is_number, entered, left_out, last
 use Rattle.dom_model.specs.Forests.Arena.{IsSound}
 use Rattle.dom_model.proofs.PlainLists.{Numbers.same_or, Numbers.same, Numbers.apart, Places.place_before, Places.place-there}
 use Rattle.dom_model.proofs.Forests.{Changes.seen, Changes.nothing, Changes.just, Changes.cut_at, Lying.left_out-absent, Siblings.hits-get}
-use Rattle.dom_tree.specs.{Slots.Kept, Slots.with_index, Slots.with_sure, Slots.unknown, Slots.Tells, Slots.index_in, Slots.sure_in, Slots.reach_in, Slots.indexed, Slots.assured, Slots.IsCounted, Numberings.index_put, Numberings.sure_put, Numberings.reach_put, Numberings.numbered_put, Numberings.numbered_cut_from, Numberings.numbered_cut, Numberings.IsWritten, Numberings.IsNumbered, Blocks.ahead_of, Blocks.raised, Blocks.lowered, Blocks.counts_in, Blocks.counts_but, Blocks.AreFilled, Blocks.Fits, Blocks.StandsInBlocks, Blocks.AreBlocked, Blocks.block_of, Blocks.block_beside, Blocks.block_put, Blocks.unsure, Blocks.blocked_put, Blocks.block_at, Blocks.IsInBlocks, Blocks.IsRenumbered}
-use Rattle.dom_tree.proofs.{PlacesAt.get-place, PlacesAt.get-within, Beside.get-last, Stores.linked-at, Stores.unlinked-at, Stores.added-old, Stores.taken-other, Counting.children-once, Counting.altered-children, Counting.altered-parent, Counting.altered-part, Counting.indexed-index, Counting.indexed-other, Counting.indexed-sure, Counting.indexed-reach, Counting.assured-sure, Counting.assured-reach, Counting.assured-other, Counting.assured-far, Counting.assured-index, Counting.hits-entered, Counting.link-index, Counting.link-reach, Counting.link-children, Counting.cut-index, Counting.cut-reach, Counting.cut-children, Counting.some-altered, Counting.linked-under, Counting.held-linked, Nodes.indexed-nodes, Nodes.assured-nodes, Nodes.room-altered, OwnedSlots.indexed-owned, OwnedSlots.assured-owned, Written.children-same, Written.held-same, Written.not_in, InBlocks.ahead-first, InBlocks.fits-entered, InBlocks.fits-left_out, InBlocks.fits-filled, MapTable.blocks, MapTable.but-here, MapTable.but-other}
-use Rattle.dom_links.proofs.Cutting.{names-same, names-other}
+use Rattle.dom_tree.specs.{Slots.Kept, Slots.with_index, Slots.with_sure, Slots.unknown, Slots.IsIndexCached, Slots.index_in, Slots.sure_in, Slots.reach_in, Slots.indexed, Slots.assured, Slots.IsCounted, CachedIndices.index_put, CachedIndices.sure_put, CachedIndices.reach_put, CachedIndices.numbered_put, CachedIndices.numbered_cut_from, CachedIndices.numbered_cut, CachedIndices.IsWritten, CachedIndices.IsNumbered, Blocks.count_ahead, Blocks.raised, Blocks.lowered, Blocks.counts_in, Blocks.counts_but, Blocks.AreFilled, Blocks.FitsBlocks, Blocks.StandsInBlocks, Blocks.AreBlocked, Blocks.block_of, Blocks.block_beside, Blocks.block_put, Blocks.unsure, Blocks.blocked_put, Blocks.block_at, Blocks.IsInBlocks, Blocks.IsRenumbered}
+use Rattle.dom_tree.proofs.{PlaceInLemmas.get-place, PlaceInLemmas.get-within, SiblingLemmas.get-last, StoreEntryLemmas.linked-at, StoreEntryLemmas.unlinked-at, StoreEntryLemmas.added-old, StoreEntryLemmas.taken-other, CachedIndexLemmas.children-once, CachedIndexLemmas.altered-children, CachedIndexLemmas.altered-parent, CachedIndexLemmas.altered-part, CachedIndexLemmas.indexed-index, CachedIndexLemmas.indexed-other, CachedIndexLemmas.indexed-sure, CachedIndexLemmas.indexed-reach, CachedIndexLemmas.assured-sure, CachedIndexLemmas.assured-reach, CachedIndexLemmas.assured-other, CachedIndexLemmas.assured-far, CachedIndexLemmas.assured-index, CachedIndexLemmas.hits-entered, CachedIndexLemmas.link-index, CachedIndexLemmas.link-reach, CachedIndexLemmas.link-children, CachedIndexLemmas.cut-index, CachedIndexLemmas.cut-reach, CachedIndexLemmas.cut-children, CachedIndexLemmas.some-altered, CachedIndexLemmas.linked-under, CachedIndexLemmas.held-linked, Nodes.indexed-nodes, Nodes.assured-nodes, Nodes.room-altered, OwnedSlots.indexed-owned, OwnedSlots.assured-owned, WrittenIndicesLemmas.children-same, WrittenIndicesLemmas.held-same, WrittenIndicesLemmas.not_in, BlockCountLemmas.ahead-first, BlockCountLemmas.fits-entered, BlockCountLemmas.fits-left_out, BlockCountLemmas.fits-filled, MapTable.blocks, MapTable.but-here, MapTable.but-other}
+use Rattle.dom_links.proofs.UnlinkLemmas.{names-same, names-other}
 
 raised-some : (cs : List ℕ) (r : ℕ) → 0 < length (raised cs r) → 0 < length cs
 raised-some [] r h = h
@@ -60,7 +60,7 @@ module _ {X : Type 0} where
         | same e t ↦
             let h : 0 < hits x (children_in (at p)) = subst (λ m. 0 < hits x (children_in (at m))) e (rw (hc q) at hx) in
             let i = place-there x (children_in (at p)) h in
-            subst (λ m. Tells (index_in (at' x)) (place_in x (children_in (at' m))) (sure_in (at' m)) (reach_in (at' m))) (sym e)
+            subst (λ m. IsIndexCached (index_in (at' x)) (place_in x (children_in (at' m))) (sure_in (at' m)) (reach_in (at' m))) (sym e)
             (rw (hc p, sp, rp) (omega arith, λ le. absurd (omega arith)))
         | apart ne t ↦
             let h : 0 < hits x (children_in (at q)) = rw (hc q) at hx in
@@ -196,7 +196,7 @@ module _ {X : Type 0} {a : Arena (Kept X)} (l : IsSound a) (table : List (ℕ ×
                 | apart _ t ↦ t
               ]
 
-      beside : (o : Option ℕ) → ((q : ℕ) → o ≡ Some q → parent_in (entry_at a q) ≡ Some p) → Fits (counts_in table p) (λ x. index_in (entry_at a x)) (children_in (entry_at a p)) → (ahead_of (counts_in table p) (block_beside (entry_at a) p o) ≤ place_before o (children_in (entry_at a p))) × (place_before o (children_in (entry_at a p)) ≤ ahead_of (counts_in table p) (block_beside (entry_at a) p o + 1))
+      beside : (o : Option ℕ) → ((q : ℕ) → o ≡ Some q → parent_in (entry_at a q) ≡ Some p) → FitsBlocks (counts_in table p) (λ x. index_in (entry_at a x)) (children_in (entry_at a p)) → (count_ahead (counts_in table p) (block_beside (entry_at a) p o) ≤ place_before o (children_in (entry_at a p))) × (place_before o (children_in (entry_at a p)) ≤ count_ahead (counts_in table p) (block_beside (entry_at a) p o + 1))
       beside (Some q) h ft =
           let hq : 0 < hits q (children_in (entry_at a p)) = omega (arith, l.linked p q, ap (λ o. names o p) (h q refl), names-same p) in
           let u = ft.until q hq in
@@ -206,7 +206,7 @@ module _ {X : Type 0} {a : Arena (Kept X)} (l : IsSound a) (table : List (ℕ ×
             | nothing e ↦
                 let z : length list ≡ 0 = none-last e in
                 let e2 : block_of (entry_at a) (last_of list) ≡ 0 = ap (block_of (entry_at a)) e in
-                let e3 = ap (ahead_of (counts_in table p)) e2 in
+                let e3 = ap (count_ahead (counts_in table p)) e2 in
                 let e4 = ahead-first (counts_in table p) in
                 (omega arith, omega arith)
             | just m e ↦
@@ -215,8 +215,8 @@ module _ {X : Type 0} {a : Arena (Kept X)} (l : IsSound a) (table : List (ℕ ×
                 let pm = get-place list (length list - 1) m (children-once (entry_at a) l.linked p) g in
                 let th = place-there m list hm in
                 let e2 : block_of (entry_at a) (last_of list) ≡ index_in (entry_at a m) = ap (block_of (entry_at a)) e in
-                let e3 = ap (ahead_of (counts_in table p)) e2 in
-                let e4 = ap (λ n. ahead_of (counts_in table p) (n + 1)) e2 in
+                let e3 = ap (count_ahead (counts_in table p)) e2 in
+                let e4 = ap (λ n. count_ahead (counts_in table p) (n + 1)) e2 in
                 let lo = ft.since m hm in
                 let hi = ft.until m hm in
                 (omega arith, omega arith)
@@ -244,7 +244,7 @@ module _ {X : Type 0} {a : Arena (Kept X)} (l : IsSound a) (table : List (ℕ ×
                 subst (λ m. StandsInBlocks (entry_at f) (counts_in table' m) m) (sym d)
                 (subst (λ cs. StandsInBlocks (entry_at f) cs p) (sym here)
                 record {
-                  fits = subst (Fits (raised (counts_in table p) block) (λ x. index_in (entry_at f x))) (sym (f-children p ∙ put-here))
+                  fits = subst (FitsBlocks (raised (counts_in table p) block) (λ x. index_in (entry_at f x))) (sym (f-children p ∙ put-here))
                       (fits-entered ft b c block (absent p) nb bs2.0 bs2.1 h1 (λ x. index_in (entry_at f x)) f-index (λ x ne. f-indices x ne ∙ put-indices x ne));
                   reach = f-reach;
                 })
@@ -387,7 +387,7 @@ module _ {X : Type 0} {a : Arena (Kept X)} (l : IsSound a) (table : List (ℕ ×
               | same d t ↦
                   subst (λ m. StandsInBlocks (entry_at b) (counts_in table' m) m) (sym d)
                   record {
-                    fits = subst (Fits (counts_in table' p) (λ x. index_in (entry_at b x))) (sym (children-same b a n.nodes p))
+                    fits = subst (FitsBlocks (counts_in table' p) (λ x. index_in (entry_at b x))) (sym (children-same b a n.nodes p))
                         (fits-filled (counts_in table' p) (λ x. index_in (entry_at b x)) (children_in (entry_at a p)) filled n.written);
                     reach = n.reach;
                   }

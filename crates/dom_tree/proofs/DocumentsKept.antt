@@ -5,7 +5,7 @@ use Rattle.dom_model.specs.Definitions.{Entry, parent_in, children_in, Node, For
 use Rattle.dom_model.proofs.PlainLists.Numbers.{same_or, same, apart}
 use Rattle.dom_model.proofs.Forests.{Changes.cut_at, Changes.link_at, Changes.change_at, Entries.entry-cut, Entries.entry-put, Entries.entry_under-absent, ForestsBeside.entry-older, ForestsBeside.entry-younger}
 use Rattle.dom_model.proofs.TokenText.AlikeTrees.MergedTrees.{entry-with_node}
-use Rattle.dom_tree.specs.Owned.{document_at, document_in}
+use Rattle.dom_tree.specs.NodeDocuments.{document_at, document_in}
 
 module _ {X : Type 0} where
   pub document-HasNode : (f : Forest X) (n : ℕ) → IsSome (document_in f n) → HasNode f n

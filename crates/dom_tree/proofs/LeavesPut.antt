@@ -5,8 +5,8 @@ use denote.RawPtr.{Ptr}
 use Rattle.dom_model.specs.Definitions.{among, head_of, Entry, Node, Grove, HasNode, entry_in, ancestors, IsForest, may_stand_in, entry_has}
 use Rattle.dom_model.proofs.Forests.ToTheRoot.{inside-same}
 use Rattle.dom_links.specs.Placed.{Placed}
-use Rattle.dom_tree.specs.{Slots.Kept, Slots.nodes_alone, Spelled.slot_in, Spelled.shown, Standing.takes_leaf, Standing.MayStand, Standing.IsLeafFor, declared.tallies.Tally.Tally, Places.slots_in, Places.called, Places.Leads, Places.IsSeated}
-use Rattle.dom_tree.proofs.{Referring.inside-alone, Steps.led, Steps.begins, Trees.holds-read}
+use Rattle.dom_tree.specs.{Slots.Kept, Slots.nodes_alone, SpelledForest.slot_in, SpelledForest.shown, PutConditions.takes_leaf, PutConditions.MayStand, PutConditions.IsLeafFor, declared.tallies.Tally.Tally, Places.slots_in, Places.called, Places.Leads, Places.IsSeated}
+use Rattle.dom_tree.proofs.{RefersLemmas.inside-alone, PlaceWalkLemmas.led, PlaceWalkLemmas.begins, SlotStepLemmas.holds-read}
 
 first_of : (a b : Bool) → (a && b) ≡ true → a ≡ true
 first_of true b e = refl

@@ -2,7 +2,7 @@
 use Rattle.std.proofs.Common.{◌≡◌, ℕ, ◌==◌, Bool, true, false, cond, if◌then◌else◌, List, [], ◌∷◌, Option, Some, None, refl, ap, sym, ◌∙◌, nat_eq}
 use Rattle.std.specs.Map.{lookup}
 use Rattle.dom_model.proofs.PlainLists.Numbers.{same_or, same, apart}
-use Rattle.dom_tree.specs.{declared.tallies.Tally.Tally, Blocks.counts_of, Blocks.counts_in, Tallies.tally_in}
+use Rattle.dom_tree.specs.{declared.tallies.Tally.Tally, Blocks.counts_or_none, Blocks.counts_in, Tallies.tally_in}
 
 -- a way to read what is held for a parent: from what a look-up finds
 pub record Reading (A B : Type 0) : Type 0 where
@@ -12,13 +12,13 @@ pub record Reading (A B : Type 0) : Type 0 where
 
 -- the blocks of a parent
 abbrev pub blocks : Reading (List ℕ) (List ℕ)
-blocks = record { read = counts_in; of = counts_of; found = found }
+blocks = record { read = counts_in; of = counts_or_none; found = found }
   where
-    found : (p : ℕ) (es : List (ℕ × List ℕ)) → counts_in es p ≡ counts_of (lookup (nat_eq p) es)
+    found : (p : ℕ) (es : List (ℕ × List ℕ)) → counts_in es p ≡ counts_or_none (lookup (nat_eq p) es)
     found p [] = refl
     found p (e ∷ es) = go (p == e.0) (found p es)
       where
-        go : (v : Bool) → counts_in es p ≡ counts_of (lookup (nat_eq p) es) → (if v then e.1 else counts_in es p) ≡ counts_of (cond v (Some e.1) (lookup (nat_eq p) es))
+        go : (v : Bool) → counts_in es p ≡ counts_or_none (lookup (nat_eq p) es) → (if v then e.1 else counts_in es p) ≡ counts_or_none (cond v (Some e.1) (lookup (nat_eq p) es))
         go true i = refl
         go false i = i
 

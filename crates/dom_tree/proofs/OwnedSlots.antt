@@ -3,8 +3,8 @@ use Rattle.std.proofs.Common.{◌≡◌, ℕ, ◌+◌, ◌-◌, ◌<◌, ◌==�
 use Rattle.std.proofs.lemmas.Bool.{false≢true}
 use Rattle.dom_model.specs.Definitions.{entered, left_out, Arena, Entry, entry_at, parent_in, with_value, with_parent, with_children, altered, linked, unlinked, unlinked_from, IsHeld, one_at}
 use Rattle.dom_model.proofs.PlainLists.Numbers.{same_or, same, apart}
-use Rattle.dom_tree.specs.{Slots.Kept, Slots.with_index, Slots.with_sure, Slots.with_owned, Slots.with_document, Slots.owned_in, Slots.indexed, Slots.assured, Slots.owning, Slots.one_more, Slots.one_less, Slots.homed, Numberings.index_put, Numberings.sure_put, Numberings.reach_put, Numberings.numbered_put, Numberings.numbered_cut, Numberings.numbered_cut_from}
-use Rattle.dom_tree.proofs.Stores.{altered-at}
+use Rattle.dom_tree.specs.{Slots.Kept, Slots.with_index, Slots.with_sure, Slots.with_owned, Slots.with_document, Slots.owned_in, Slots.indexed, Slots.assured, Slots.owning, Slots.one_more, Slots.one_less, Slots.homed, CachedIndices.index_put, CachedIndices.sure_put, CachedIndices.reach_put, CachedIndices.numbered_put, CachedIndices.numbered_cut, CachedIndices.numbered_cut_from}
+use Rattle.dom_tree.proofs.StoreEntryLemmas.{altered-at}
 
 module _ {X : Type 0} where
   pub altered-owned : (f : Entry (Kept X) → Entry (Kept X)) → ((e : Entry (Kept X)) → (f e).value.owned ≡ e.value.owned) → (a : Arena (Kept X)) (n s : ℕ) → owned_in (entry_at (altered f a n) s) ≡ owned_in (entry_at a s)

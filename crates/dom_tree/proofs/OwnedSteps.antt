@@ -5,9 +5,9 @@ use Rattle.dom_model.specs.Definitions.{Arena, Entry, entry_at, names, with_valu
 use Rattle.dom_model.specs.Forests.Arena.{IsSound}
 use Rattle.dom_model.proofs.PlainLists.Numbers.{same_or, same, apart}
 use Rattle.dom_model.proofs.Forests.Totals.{occurs-without}
-use Rattle.dom_tree.specs.{Owned.IsOwned, Owned.document_at, Owned.document_in, Owned.owned_by, Spelled.renumbered, Spelled.slot_in, Spelled.numbered, Spelled.shown, Slots.Kept, Slots.node_entry, Slots.nodes_alone, Slots.with_owned, Slots.with_document, Slots.owned_in, Slots.document_in_slot, Slots.one_more, Slots.one_less, Slots.homed, Slots.Owns, Slots.IsTree}
-use Rattle.dom_tree.proofs.{Kept.entry-numbered, Kept.entry-slot, Nodes.entry-nodes, Nodes.parent-nodes, Nodes.children-nodes, Nodes.sound-nodes, Nodes.taken-nodes, Stores.altered-at, Stores.added-new, Stores.added-old, Stores.taken-other, Making.slot_in-new, Making.slot_in-old, OwnedSlots.homed-owned, OwnedSlots.more-at, OwnedSlots.less-at, Owning.names-is, Owning.names-not, Owning.having-few, Owning.having-some, Owning.having-but, Owning.owned-made, Owning.owned-moved, Owning.owned-taken, DocumentsKept.document-HasNode, DocumentsKept.HasNode-document, DocumentsKept.document-none, DocumentsKept.documents-set, DocumentsKept.documents-others, DocumentsKept.documents-root, DocumentsKept.documents-older, OwnedTrees.owning-stays, Trees.Stays, Trees.slot-held, Trees.held-slot, Trees.holds-read, Trees.forest-read, Trees.alter-done, Trees.parent-none, Trees.children-none}
-use Rattle.dom_tree.proofs.Taking as taking
+use Rattle.dom_tree.specs.{NodeDocuments.AreDocumentsCounted, NodeDocuments.document_at, NodeDocuments.document_in, NodeDocuments.owned_by, SpelledForest.renumbered, SpelledForest.slot_in, SpelledForest.numbered, SpelledForest.shown, Slots.Kept, Slots.node_entry, Slots.nodes_alone, Slots.with_owned, Slots.with_document, Slots.owned_in, Slots.document_in_slot, Slots.one_more, Slots.one_less, Slots.homed, Slots.Owns, Slots.IsTree}
+use Rattle.dom_tree.proofs.{TreeInvariantLemmas.entry-numbered, TreeInvariantLemmas.entry-slot, Nodes.entry-nodes, Nodes.parent-nodes, Nodes.children-nodes, Nodes.sound-nodes, Nodes.taken-nodes, StoreEntryLemmas.altered-at, StoreEntryLemmas.added-new, StoreEntryLemmas.added-old, StoreEntryLemmas.taken-other, MakeLemmas.slot_in-new, MakeLemmas.slot_in-old, OwnedSlots.homed-owned, OwnedSlots.more-at, OwnedSlots.less-at, IsOwnedLemmas.names-is, IsOwnedLemmas.names-not, IsOwnedLemmas.having-few, IsOwnedLemmas.having-some, IsOwnedLemmas.having-but, IsOwnedLemmas.owned-made, IsOwnedLemmas.owned-moved, IsOwnedLemmas.owned-taken, DocumentsKept.document-HasNode, DocumentsKept.HasNode-document, DocumentsKept.document-none, DocumentsKept.documents-set, DocumentsKept.documents-others, DocumentsKept.documents-root, DocumentsKept.documents-older, OwnedTrees.owning-stays, SlotStepLemmas.Stays, SlotStepLemmas.slot-held, SlotStepLemmas.held-slot, SlotStepLemmas.holds-read, SlotStepLemmas.forest-read, SlotStepLemmas.alter-done, SlotStepLemmas.parent-none, SlotStepLemmas.children-none}
+use Rattle.dom_tree.proofs.TakeLemmas as taking
 
 module _ {X : Type 0} where
   part-owned : (o : Option (Entry (Kept X))) → IsSome o → (x : Kept X) → IfSome o (λ e. x ≡ e.value) → x.owned ≡ owned_in o
@@ -155,7 +155,7 @@ module _ {X : Type 0} {a : Arena (Kept X)} {table : List (Option ℕ)} {live : �
       record {
         stored = st.kept;
         owned =
-            λ e. subst (λ m. IsOwned (document_in (shown (nodes_alone b) places)) (slot_in places) (λ t. owned_in (entry_at b t)) m) (sym long)
+            λ e. subst (λ m. AreDocumentsCounted (document_in (shown (nodes_alone b) places)) (slot_in places) (λ t. owned_in (entry_at b t)) m) (sym long)
             (owned-made (document_in (shown (nodes_alone a) table)) (document_in (shown (nodes_alone b) places)) (slot_in table) (slot_in places) (λ t. owned_in (entry_at a t)) (λ t. owned_in (entry_at b t)) (length table) s
             (document-none (shown (nodes_alone a) table) (length table) absent) new others
             (ap (λ q. slot_in q (length table)) ep ∙ slot_in-new table s)
@@ -193,7 +193,7 @@ module _ {X : Type 0} {a : Arena (Kept X)} {table : List (Option ℕ)} {live : �
         record {
           stored = st.kept;
           owned =
-              λ e. subst (λ m. IsOwned (document_in (shown (nodes_alone b) places)) (slot_in places) (λ t. owned_in (entry_at b t)) m) (sym long)
+              λ e. subst (λ m. AreDocumentsCounted (document_in (shown (nodes_alone b) places)) (slot_in places) (λ t. owned_in (entry_at b t)) m) (sym long)
               (owned-taken (document_in (shown (nodes_alone a) table)) (document_in (shown (nodes_alone b) places)) (slot_in table) (slot_in places) (λ t. owned_in (entry_at a t)) (λ t. owned_in (entry_at b t)) (length table) n s
               document-small i itself (known e).1 gone others
               (ap (λ q. slot_in q n) ep ∙ get_or-set_same table n None None (document-small n n itself))

@@ -2,8 +2,8 @@
 use Rattle.std.proofs.Common.{◌≡◌, ℕ, Bool, false, List, length, Option, Some, None, refl, ap, sym, ◌∙◌, subst, arith}
 use Rattle.dom_model.specs.Definitions.{among, Arena, Entry, entry_at, with_value, altered, linked, unlinked, Node, Forest, Grove, occurs, HasNode, parent_of, ancestors, tree_at, cut, put, IsForest}
 use Rattle.dom_model.proofs.Forests.{Climbing.hits-ancestors, Climbing.not_among-hits, Entries.occurs-HasNode}
-use Rattle.dom_tree.specs.{Owned.document_in, Spelled.slot_in, Spelled.shown, Spelled.IsKept, Slots.Kept, Slots.nodes_alone, Slots.with_owned, Slots.owned_in, Slots.owning, Slots.IsStored, Slots.IsTree, Numberings.numbered_put, Numberings.numbered_cut, Blocks.IsRenumbered}
-use Rattle.dom_tree.proofs.{Nodes.unaltered-nodes, Nodes.room-altered, Counting.counted-altered, OwnedSlots.altered-owned, OwnedSlots.linked-owned, OwnedSlots.unlinked-owned, OwnedSlots.put-owned, OwnedSlots.cut-owned, Owning.owned-same, DocumentsKept.documents-cut, DocumentsKept.documents-put, DocumentsKept.documents-with_node, Trees.Stays, Trees.forest-read, Trees.alter-done, Trees.numbered-done}
+use Rattle.dom_tree.specs.{NodeDocuments.document_in, SpelledForest.slot_in, SpelledForest.shown, SpelledForest.IsKept, Slots.Kept, Slots.nodes_alone, Slots.with_owned, Slots.owned_in, Slots.owning, Slots.IsStored, Slots.IsTree, CachedIndices.numbered_put, CachedIndices.numbered_cut, Blocks.IsRenumbered}
+use Rattle.dom_tree.proofs.{Nodes.unaltered-nodes, Nodes.room-altered, CachedIndexLemmas.counted-altered, OwnedSlots.altered-owned, OwnedSlots.linked-owned, OwnedSlots.unlinked-owned, OwnedSlots.put-owned, OwnedSlots.cut-owned, IsOwnedLemmas.owned-same, DocumentsKept.documents-cut, DocumentsKept.documents-put, DocumentsKept.documents-with_node, SlotStepLemmas.Stays, SlotStepLemmas.forest-read, SlotStepLemmas.alter-done, SlotStepLemmas.numbered-done}
 
 -- a count written to a slot leaves the rest
 module _ {X : Type 0} where

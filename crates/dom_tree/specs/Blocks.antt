@@ -9,10 +9,10 @@ abbrev pub block_size : ℕ
 block_size = 16
 
 -- how many stand in the blocks ahead of one
-abbrev pub ahead_of : List ℕ → ℕ → ℕ
-ahead_of [] block = 0
-ahead_of (count ∷ counts) zero = 0
-ahead_of (count ∷ counts) (suc block) = count + ahead_of counts block
+abbrev pub count_ahead : List ℕ → ℕ → ℕ
+count_ahead [] block = 0
+count_ahead (count ∷ counts) zero = 0
+count_ahead (count ∷ counts) (suc block) = count + count_ahead counts block
 
 abbrev pub raised_from : Option ℕ → List ℕ → ℕ → List ℕ
 raised_from None counts block = []
@@ -45,7 +45,7 @@ block_at place = place / block_size
 
 -- so many children in blocks of which each but the last is whole
 pub record AreFilled (counts : List ℕ) (count : ℕ) : Type 0 where
-  pub ahead : (block : ℕ) → block ≤ length counts → ahead_of counts block ≡ min (block_size * block) count
+  pub ahead : (block : ℕ) → block ≤ length counts → count_ahead counts block ≡ min (block_size * block) count
   pub enough : count ≤ block_size * length counts
 
 -- how many blocks a run has
@@ -54,21 +54,21 @@ run_size = 256
 
 -- how many stand in each run of blocks, as far as it is kept
 abbrev pub AreRuns : List ℕ → List ℕ → Type 0
-AreRuns runs counts = (run : ℕ) → run ≤ length runs → ahead_of runs run ≡ ahead_of counts (run_size * run)
+AreRuns runs counts = (run : ℕ) → run ≤ length runs → count_ahead runs run ≡ count_ahead counts (run_size * run)
 
 -- the runs of so many children in blocks of which each but the last is whole, as far as they are kept
 abbrev pub AreRunsOf : List ℕ → ℕ → Type 0
-AreRunsOf runs count = (run : ℕ) → run ≤ length runs → ahead_of runs run ≡ min (block_size * (run_size * run)) count
+AreRunsOf runs count = (run : ℕ) → run ≤ length runs → count_ahead runs run ≡ min (block_size * (run_size * run)) count
 
 -- the counts that are kept; none where there are none
-abbrev pub counts_of : Option (List ℕ) → List ℕ
-counts_of None = []
-counts_of (Some counts) = counts
+abbrev pub counts_or_none : Option (List ℕ) → List ℕ
+counts_or_none None = []
+counts_or_none (Some counts) = counts
 
 -- each child stands in the block that its index names
-pub record Fits (counts : List ℕ) (index : ℕ → ℕ) (list : List ℕ) : Type 0 where
-  pub since : (x : ℕ) → 0 < hits x list → ahead_of counts (index x) ≤ place_in x list
-  pub until : (x : ℕ) → 0 < hits x list → place_in x list < ahead_of counts (index x + 1)
+pub record FitsBlocks (counts : List ℕ) (index : ℕ → ℕ) (list : List ℕ) : Type 0 where
+  pub since : (x : ℕ) → 0 < hits x list → count_ahead counts (index x) ≤ place_in x list
+  pub until : (x : ℕ) → 0 < hits x list → place_in x list < count_ahead counts (index x + 1)
 
 module _ {X : Type 0} where
   abbrev pub if_in_block : (ℕ → Option (Entry (Kept X))) → Option ℕ → ℕ → Option ℕ
@@ -77,7 +77,7 @@ module _ {X : Type 0} where
 
   -- the children of one that has blocks stand in them, and its reach tells that
   pub record StandsInBlocks (at : ℕ → Option (Entry (Kept X))) (counts : List ℕ) (p : ℕ) : Type 0 where
-    pub fits : Fits counts (λ x. index_in (at x)) (children_in (at p))
+    pub fits : FitsBlocks counts (λ x. index_in (at x)) (children_in (at p))
     pub reach : reach_in (at p) ≡ unknown
 
   -- and so do those of each parent that has blocks

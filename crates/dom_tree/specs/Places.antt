@@ -5,9 +5,9 @@ use denote.RawPtr.{Ptr}
 use Rattle.dom_pages.specs.Numbered.{item_at}
 use Rattle.dom_model.specs.Forests.Arena.{Arena, entry_at}
 use Rattle.dom_links.specs.Placed.{Placed, slot_of, slots_of, IsPlaced}
-use Rattle.dom_tree.specs.Spelled.{number_in_slot}
+use Rattle.dom_tree.specs.SpelledForest.{number_in_slot}
 use Rattle.dom_tree.specs.Slots.{Kept, nodes_alone, IsTree}
-use Rattle.dom_tree.specs.Numberings.{IsWritten, IsNumbered}
+use Rattle.dom_tree.specs.CachedIndices.{IsWritten, IsNumbered}
 use Rattle.dom_tree.specs.Blocks.{AreBlocked, IsInBlocks, IsRenumbered}
 use Rattle.dom_tree.specs.declared.tallies.Tally.{Tally}
 use Rattle.dom_tree.specs.Tallies.{AreTallied}

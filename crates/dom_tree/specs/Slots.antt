@@ -5,8 +5,8 @@ use Rattle.dom_model.specs.PlainLists.Lists.{hits, place_in}
 use Rattle.dom_model.specs.Forests.Arena.{Arena, Entry, entry_at, children_in, with_value, altered}
 use Rattle.dom_model.specs.Forests.Forest.{Node, in_document}
 use Rattle.dom_model.specs.Forests.ForestCode.{node_code}
-use Rattle.dom_tree.specs.Owned.{document_in, IsOwned}
-use Rattle.dom_tree.specs.Spelled.{slot_in, shown, IsKept}
+use Rattle.dom_tree.specs.NodeDocuments.{document_in, AreDocumentsCounted}
+use Rattle.dom_tree.specs.SpelledForest.{slot_in, shown, IsKept}
 
 -- a node, its kept index, how many of its first children have a right one, how many of them may have one at all, and how many nodes have it as
 -- their node document
@@ -29,8 +29,8 @@ unknown = 4294967295
 
 -- What a kept index tells of a child's place: it is the place where either is below the parent's count of right ones, and else both are beyond that;
 -- and it is unknown from the parent's reach on.
-abbrev pub Tells : ℕ → ℕ → ℕ → ℕ → Type 0
-Tells index place sure reach = (min index sure ≡ min place sure) × (reach ≤ place → index ≡ unknown)
+abbrev pub IsIndexCached : ℕ → ℕ → ℕ → ℕ → Type 0
+IsIndexCached index place sure reach = (min index sure ≡ min place sure) × (reach ≤ place → index ≡ unknown)
 
 module _ {X : Type 0} where
   abbrev pub with_index : ℕ → Kept X → Kept X
@@ -83,7 +83,7 @@ module _ {X : Type 0} where
   -- each child's kept index tells what it is to tell
   abbrev pub IsCounted : (ℕ → Option (Entry (Kept X))) → Type 0
   IsCounted at =
-      (p c : ℕ) → 0 < hits c (children_in (at p)) → Tells (index_in (at c)) (place_in c (children_in (at p))) (sure_in (at p)) (reach_in (at p))
+      (p c : ℕ) → 0 < hits c (children_in (at p)) → IsIndexCached (index_in (at c)) (place_in c (children_in (at p))) (sure_in (at p)) (reach_in (at p))
 
   -- a slot's count of nodes that have its node as their node document set
   abbrev pub owning : Arena (Kept X) → ℕ → ℕ → Arena (Kept X)
@@ -109,7 +109,7 @@ module _ {X : Type 0} where
 
   -- the node documents of the nodes are nodes, and counted
   abbrev pub Owns : Arena (Kept X) → List (Option ℕ) → Type 0
-  Owns a table = IsOwned (document_in (shown (nodes_alone a) table)) (slot_in table) (λ s. owned_in (entry_at a s)) (length table)
+  Owns a table = AreDocumentsCounted (document_in (shown (nodes_alone a) table)) (slot_in table) (λ s. owned_in (entry_at a s)) (length table)
 
   -- what a tree keeps: the counts of node documents as long as no node document can be missing
   pub record IsTree (a : Arena (Kept X)) (table : List (Option ℕ)) (live : ℕ) (strays : Bool) : Type 0 where

@@ -6,9 +6,9 @@ ghost use Rattle.dom_model.specs.PlainLists.Lists.{among, after, head_of, last_o
 ghost use Rattle.dom_model.specs.Forests.Forest.{HasNode, entry_in, parent_of, children_of, next_of, previous_of, ancestors, inclusive_descendants, IsForest};
 
 use crate::item::Item;
-use crate::nearby::{self, number_of, place_of};
+use crate::neighbours::{self, number_of, place_of};
 use crate::node_id::NodeId;
-use crate::table::Table;
+use crate::node_table::NodeTable;
 use crate::tree::Tree;
 use dom_kinds::Label;
 use dom_links::{Place, Store};
@@ -18,13 +18,13 @@ use std::marker::Model;
 #[derive(Drop)]
 pub struct At<'a, X> {
     pub(crate) links: &'a Store<Item<X>>,
-    pub(crate) table: &'a Table,
+    pub(crate) table: &'a NodeTable,
     pub(crate) place: Place,
 }
 
 impl<'a, X> Model for At<'a, X> {
     ghost use Rattle.std.specs.Prelude.{length};
-    ghost use Rattle.dom_tree.specs.Spelled.{shown};
+    ghost use Rattle.dom_tree.specs.SpelledForest.{shown};
     ghost use Rattle.dom_tree.specs.Slots.{nodes_alone};
     ghost use Rattle.dom_tree.specs.Places.{slots_in, called};
     ghost use Rattle.dom_tree.specs.Spots.{Spot, spot_code, IsSpot};
@@ -98,7 +98,7 @@ impl<'a, X> At<'a, X> {
         ensures node { node_at result ≡ parent_of self.now.tree.forest self.now.node }
     {
         self.links.sound();
-        let place = nearby::parent(self.links, self.place)?;
+        let place = neighbours::parent(self.links, self.place)?;
         Some(At {
             links: self.links,
             table: self.table,
@@ -112,7 +112,7 @@ impl<'a, X> At<'a, X> {
         ensures node { node_at result ≡ head_of (children_of self.now.tree.forest self.now.node) }
     {
         self.links.sound();
-        let place = nearby::first(self.links, self.place)?;
+        let place = neighbours::first(self.links, self.place)?;
         Some(At {
             links: self.links,
             table: self.table,
@@ -126,7 +126,7 @@ impl<'a, X> At<'a, X> {
         ensures node { node_at result ≡ last_of (children_of self.now.tree.forest self.now.node) }
     {
         self.links.sound();
-        let place = nearby::last(self.links, self.place)?;
+        let place = neighbours::last(self.links, self.place)?;
         Some(At {
             links: self.links,
             table: self.table,
@@ -140,7 +140,7 @@ impl<'a, X> At<'a, X> {
         ensures node { node_at result ≡ next_of self.now.tree.forest self.now.node }
     {
         self.links.sound();
-        let place = nearby::next(self.links, self.place)?;
+        let place = neighbours::next(self.links, self.place)?;
         Some(At {
             links: self.links,
             table: self.table,
@@ -154,7 +154,7 @@ impl<'a, X> At<'a, X> {
         ensures node { node_at result ≡ previous_of self.now.tree.forest self.now.node }
     {
         self.links.sound();
-        let place = nearby::prev(self.links, self.place)?;
+        let place = neighbours::prev(self.links, self.place)?;
         Some(At {
             links: self.links,
             table: self.table,
@@ -173,7 +173,7 @@ impl<'a, X> At<'a, X> {
         self.links.sound();
         let links = self.links;
         let table = self.table;
-        if let Some(place) = nearby::first(links, self.place) {
+        if let Some(place) = neighbours::first(links, self.place) {
             return Some(At {
                 links,
                 table,
@@ -182,14 +182,14 @@ impl<'a, X> At<'a, X> {
         }
         let mut here = self.place;
         while number_of(links, here) != top {
-            if let Some(place) = nearby::next(links, here) {
+            if let Some(place) = neighbours::next(links, here) {
                 return Some(At {
                     links,
                     table,
                     place,
                 });
             }
-            here = nearby::parent(links, here).unwrap();
+            here = neighbours::parent(links, here).unwrap();
         }
         None
     }
@@ -204,7 +204,7 @@ impl<'a, X> At<'a, X> {
         self.links.sound();
         let links = self.links;
         let mut place = self.place;
-        while let Some(last) = nearby::last(links, place) {
+        while let Some(last) = neighbours::last(links, place) {
             place = last;
         }
         At {

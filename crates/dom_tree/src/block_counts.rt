@@ -1,7 +1,7 @@
 //! The number of children in each block of a long list, and in each run of blocks.
 
 ghost use Rattle.std.specs.Prelude.{◌≡◌, ℕ, ◌+◌, ◌^◌, ◌<◌, ◌≤◌, length, [], IsTrue, IfOk, false};
-ghost use Rattle.dom_tree.specs.Blocks.{ahead_of, raised, lowered, AreFilled, AreRunsOf};
+ghost use Rattle.dom_tree.specs.Blocks.{count_ahead, raised, lowered, AreFilled, AreRunsOf};
 
 use std::alloc::{AllocError, Global};
 use std::marker::Model;
@@ -52,9 +52,9 @@ impl Model for BlockCounts {
 fn add_up(counts: &[u32], from: usize, until: usize, ahead: u32) -> u32
     requires there { until ≤ length counts.now }
     requires order { from ≤ until }
-    requires ahead { ahead ≡ ahead_of counts.now from }
-    requires few { ahead_of counts.now until < 2 ^ 32 }
-    ensures { result ≡ ahead_of counts.now until }
+    requires ahead { ahead ≡ count_ahead counts.now from }
+    requires few { count_ahead counts.now until < 2 ^ 32 }
+    ensures { result ≡ count_ahead counts.now until }
 {
     let mut sum = ahead;
     for passed in from..until {
@@ -183,8 +183,8 @@ impl BlockCounts {
     /// Returns the number of children in the blocks before a block.
     pub(crate) fn ahead_of(&self, block: usize) -> u32
         requires there { block ≤ length self.now }
-        requires few { ahead_of self.now block < 2 ^ 32 }
-        ensures { result ≡ ahead_of self.now block }
+        requires few { count_ahead self.now block < 2 ^ 32 }
+        ensures { result ≡ count_ahead self.now block }
     {
         let runs = (block / RUN as usize).min(self.runs.len());
         let ahead = add_up(&self.runs, 0, runs, 0);

@@ -2,7 +2,7 @@
 
 ghost use Rattle.std.specs.Prelude.{◌≡◌, ℕ, ◌^◌, ◌<◌, ◌==◌, if◌then◌else◌, option_copied, [], IsTrue, false, nat_eq};
 ghost use Rattle.indexmap.specs.IndexMap.{IsUnique};
-ghost use Rattle.dom_tree.specs.Blocks.{raised, lowered, counts_of, counts_in, counts_but, AreFilled};
+ghost use Rattle.dom_tree.specs.Blocks.{raised, lowered, counts_or_none, counts_in, counts_but, AreFilled};
 
 use crate::block_counts::{BlockCounts, blocks_of};
 use crate::node_id::NodeId;
@@ -128,7 +128,7 @@ impl Blocks {
 
     /// Returns the number of children in each block of a parent, if it has blocks.
     pub(crate) fn counts(&self, parent: Slot) -> Option<&BlockCounts>
-        ensures { counts_of (option_copied result) ≡ counts_in self.now parent }
+        ensures { counts_or_none (option_copied result) ≡ counts_in self.now parent }
     {
         self.by_slot.get(&parent.number())
     }
@@ -186,7 +186,7 @@ impl Blocks {
 
     /// Reserves room for the blocks of a parent's children, so that a query finds it. It does so if their number is a multiple of 128, or if memory
     /// was refused before.
-    pub(crate) fn make_room(&mut self, parent: Slot, count: u32) -> Result<(), AllocError>
+    pub(crate) fn reserve_blocks(&mut self, parent: Slot, count: u32) -> Result<(), AllocError>
         ensures { (p : ℕ) → counts_in self.new p ≡ counts_in self.old p }
     {
         if count % LONG != 0 && !self.was_refused {
@@ -237,7 +237,7 @@ impl Blocks {
     }
 
     /// Sets the node near a block.
-    pub(crate) fn come_near(&mut self, parent: Slot, block: u32, node: NodeId)
+    pub(crate) fn cache_block(&mut self, parent: Slot, block: u32, node: NodeId)
         ensures { self.new ≡ self.old }
     {
         if let Some(nodes) = self.near.get_mut(&parent.number()) {

@@ -6,7 +6,7 @@ ghost use Rattle.dom_model.specs.PlainLists.Lists.{from_first};
 ghost use Rattle.dom_model.specs.Forests.Forest.{HasNode, parent_of, children_of};
 
 use crate::item::Item;
-use crate::nearby::{link_to, number_of, place_of};
+use crate::neighbours::{link_to, number_of, place_of};
 use crate::node_id::NodeId;
 use crate::tree::Tree;
 use dom_links::{Link, Store};
@@ -21,7 +21,7 @@ pub struct Children<'a, X> {
 
 impl<'a, X> Model for Children<'a, X> {
     ghost use Rattle.std.specs.Prelude.{List, ℕ};
-    ghost use Rattle.dom_tree.specs.Following.{numbers_from, IsChild};
+    ghost use Rattle.dom_tree.specs.ChildrenFrom.{numbers_from, IsChild};
 
     ghost Value = { List ℕ };
 

@@ -6,7 +6,7 @@ ghost use Rattle.dom_model.specs.Forests.Kinds.{is_character_data};
 ghost use Rattle.dom_model.specs.Forests.Nodes.{is_of_kind, kind_passes};
 ghost use Rattle.dom_model.specs.MutationAlgorithms.Checks.{count_kind};
 
-use crate::nearby::place_of;
+use crate::neighbours::place_of;
 use crate::node_id::NodeId;
 use crate::tree::Tree;
 use dom_kinds::{Kind, is_character_data};

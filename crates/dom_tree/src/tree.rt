@@ -7,18 +7,18 @@ ghost use Rattle.dom_model.specs.PlainLists.Lists.{among, head_of, last_of};
 ghost use Rattle.dom_model.specs.Forests.Forest.{empty, node, beside, size, entry_in, HasNode, parent_of, children_of, next_of, previous_of, ancestors, put, cut, IsForest};
 ghost use Rattle.dom_links.specs.Placed.{entry_behind, IsPlaced};
 ghost use Rattle.dom_tree.specs.Bodies.{lends_item_body};
-ghost use Rattle.dom_tree.specs.Standing.{MayStand};
+ghost use Rattle.dom_tree.specs.PutConditions.{MayStand};
 
-use crate::blocking::blocked_cut;
+use crate::block_updates::blocked_cut;
 use crate::blocks::Blocks;
 use crate::item::Item;
-use crate::nearby::{link_to, named, place_of};
+use crate::neighbours::{link_to, named, place_of};
 use crate::node_id::NodeId;
-use crate::placing::put_at;
-use crate::table::Table;
+use crate::insertion::put_at;
+use crate::node_table::NodeTable;
 use crate::tallies::Tallies;
-use crate::tallying::tallied_cut;
-use crate::upkeep::number_cut;
+use crate::tally_updates::tallied_cut;
+use crate::index_updates::number_cut;
 use dom_kinds::Label;
 use dom_links::{Place, Store};
 use dom_pages::Pages;
@@ -32,7 +32,7 @@ use std::marker::Model;
 #[derive(Drop)]
 pub struct Tree<X> {
     pub(crate) links: Store<Item<X>>,
-    pub(crate) table: Table,
+    pub(crate) table: NodeTable,
     pub(crate) live: u64,
     pub(crate) strays: bool,
     pub(crate) blocks: Blocks,
@@ -43,7 +43,7 @@ impl<X> Model for Tree<X> {
     ghost use Rattle.std.specs.Prelude.{length};
     ghost use Rattle.dom_model.specs.Forests.Forest.{Grove};
     ghost use Rattle.dom_model.specs.Forests.ForestCode.{grove_code};
-    ghost use Rattle.dom_tree.specs.Spelled.{shown};
+    ghost use Rattle.dom_tree.specs.SpelledForest.{shown};
     ghost use Rattle.dom_tree.specs.Slots.{nodes_alone};
     ghost use Rattle.dom_tree.specs.Places.{slots_in, IsSeated};
 
@@ -140,7 +140,7 @@ impl<X: Drop> Tree<X> {
 }
 
 impl<X> Tree<X> {
-    ghost use Rattle.dom_tree.specs.Lends.{lends_body};
+    ghost use Rattle.dom_tree.specs.Borrows.{lends_body};
 
     /// Returns a tree without nodes. It takes no memory.
     pub fn new(alloc: Global) -> Tree<X>

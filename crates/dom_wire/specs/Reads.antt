@@ -5,14 +5,14 @@ use Rattle.dom_model.specs.declared.OwnError.{OwnError}
 use Rattle.dom_model.specs.declared.OwnError.TheVariants.{BadArguments}
 use Rattle.dom_session.specs.declared.command.Command.{Command}
 use Rattle.dom_session.specs.Views.{command_view}
-use Rattle.dom_wire.specs.declared.error.ReadError.{ReadError}
-use Rattle.dom_wire.specs.declared.error.ReadError.TheVariants.{Own, Memory}
+use Rattle.dom_wire.specs.declared.read_error.ReadError.{ReadError}
+use Rattle.dom_wire.specs.declared.read_error.ReadError.TheVariants.{Own, Memory}
 
 -- the command or the refusal, unless memory was wanting
-abbrev pub Reads : Result Command ReadError → Result model.Command OwnError → Type 0
-Reads (Ok c) r = r ≡ Ok (command_view c)
-Reads (Err (Own e)) r = r ≡ Err e
-Reads (Err Memory) r = Unit {0}
+abbrev pub ReadsCommand : Result Command ReadError → Result model.Command OwnError → Type 0
+ReadsCommand (Ok c) r = r ≡ Ok (command_view c)
+ReadsCommand (Err (Own e)) r = r ≡ Err e
+ReadsCommand (Err Memory) r = Unit {0}
 
 -- an argument's value, or the refusal of the arguments, unless memory was wanting
 abbrev pub Decodes : {A B : Type 0} → (A → B) → Result A ReadError → Option B → Type 0

@@ -2,98 +2,98 @@
 use Rattle.std.specs.Prelude.{ℕ, nat_eq, Bool, [], length, slice_index_or}
 use Rattle.dom_model.specs.Commands.Command as model
 use Rattle.dom_model.specs.Commands.Table.{Row, row, Arguments, whole_table}
-use Rattle.dom_wire.specs.declared.names.Name.{Name}
-use Rattle.dom_wire.specs.declared.names.Name.TheVariants.{NewDocument, CreateElement, CreateText, CreateComment, CreatePI, CreateDoctype, CreateFragment, InsertBefore, AppendChild, AdoptNode, ReplaceChild, RemoveChild, Remove, ReplaceChildren, ImportNode, CloneNode, Normalize, DescribeNode, Children, Index, Length, Root, IsContaining, IsEqual, ComparePosition, TextContent, SetTextContent, Tree, GetData, SetData, AppendData, InsertData, DeleteData, ReplaceData, SubstringData, SplitText, SetAttribute, GetAttribute, HasAttribute, RemoveAttribute, ToggleAttribute, AttributeNames, CreateRange, CloneRange, DescribeRange, SetStart, SetEnd, SetStartBefore, SetStartAfter, SetEndBefore, SetEndAfter, Collapse, SelectNode, SelectNodeContents, CompareBoundaryPoints, ComparePoint, IsPointInRange, IntersectsNode, CommonAncestor, RangeText, DeleteContents, ExtractContents, CloneContents, InsertNode, SurroundContents, ReleaseRange, CreateIterator, CreateWalker, DescribeIterator, NextNode, PreviousNode, DescribeWalker, SetCurrent, Walk, CreateObserver, Observe, Disconnect, TakeRecords, Notify, Pending, Discard, CreateStaticRange, DescribeStaticRange}
+use Rattle.dom_wire.specs.declared.command_names.Name.{Name}
+use Rattle.dom_wire.specs.declared.command_names.Name.TheVariants.{NewDocument, CreateElement, CreateText, CreateComment, CreatePI, CreateDoctype, CreateFragment, InsertBefore, AppendChild, AdoptNode, ReplaceChild, RemoveChild, Remove, ReplaceChildren, ImportNode, CloneNode, Normalize, DescribeNode, Children, Index, Length, Root, IsContaining, IsEqual, ComparePosition, TextContent, SetTextContent, Tree, GetData, SetData, AppendData, InsertData, DeleteData, ReplaceData, SubstringData, SplitText, SetAttribute, GetAttribute, HasAttribute, RemoveAttribute, ToggleAttribute, AttributeNames, CreateRange, CloneRange, DescribeRange, SetStart, SetEnd, SetStartBefore, SetStartAfter, SetEndBefore, SetEndAfter, Collapse, SelectNode, SelectNodeContents, CompareBoundaryPoints, ComparePoint, IsPointInRange, IntersectsNode, CommonAncestor, RangeText, DeleteContents, ExtractContents, CloneContents, InsertNode, SurroundContents, ReleaseRange, CreateIterator, CreateWalker, DescribeIterator, NextNode, PreviousNode, DescribeWalker, SetCurrent, Walk, CreateObserver, Observe, Disconnect, TakeRecords, Notify, Pending, Discard, CreateStaticRange, DescribeStaticRange}
 
 -- the place of a name's row in the table
-unfoldable pub place_of : Name → ℕ
-place_of NewDocument = 0
-place_of CreateElement = 1
-place_of CreateText = 2
-place_of CreateComment = 3
-place_of CreatePI = 4
-place_of CreateDoctype = 5
-place_of CreateFragment = 6
-place_of InsertBefore = 7
-place_of AppendChild = 8
-place_of AdoptNode = 9
-place_of ReplaceChild = 10
-place_of RemoveChild = 11
-place_of Remove = 12
-place_of ReplaceChildren = 13
-place_of ImportNode = 14
-place_of CloneNode = 15
-place_of Normalize = 16
-place_of DescribeNode = 17
-place_of Children = 18
-place_of Index = 19
-place_of Length = 20
-place_of Root = 21
-place_of IsContaining = 22
-place_of IsEqual = 23
-place_of ComparePosition = 24
-place_of TextContent = 25
-place_of SetTextContent = 26
-place_of Tree = 27
-place_of GetData = 28
-place_of SetData = 29
-place_of AppendData = 30
-place_of InsertData = 31
-place_of DeleteData = 32
-place_of ReplaceData = 33
-place_of SubstringData = 34
-place_of SplitText = 35
-place_of SetAttribute = 36
-place_of GetAttribute = 37
-place_of HasAttribute = 38
-place_of RemoveAttribute = 39
-place_of ToggleAttribute = 40
-place_of AttributeNames = 41
-place_of CreateRange = 42
-place_of CloneRange = 43
-place_of DescribeRange = 44
-place_of SetStart = 45
-place_of SetEnd = 46
-place_of SetStartBefore = 47
-place_of SetStartAfter = 48
-place_of SetEndBefore = 49
-place_of SetEndAfter = 50
-place_of Collapse = 51
-place_of SelectNode = 52
-place_of SelectNodeContents = 53
-place_of CompareBoundaryPoints = 54
-place_of ComparePoint = 55
-place_of IsPointInRange = 56
-place_of IntersectsNode = 57
-place_of CommonAncestor = 58
-place_of RangeText = 59
-place_of DeleteContents = 60
-place_of ExtractContents = 61
-place_of CloneContents = 62
-place_of InsertNode = 63
-place_of SurroundContents = 64
-place_of ReleaseRange = 65
-place_of CreateIterator = 66
-place_of CreateWalker = 67
-place_of DescribeIterator = 68
-place_of NextNode = 69
-place_of PreviousNode = 70
-place_of DescribeWalker = 71
-place_of SetCurrent = 72
-place_of Walk = 73
-place_of CreateObserver = 74
-place_of Observe = 75
-place_of Disconnect = 76
-place_of TakeRecords = 77
-place_of Notify = 78
-place_of Pending = 79
-place_of Discard = 80
-place_of CreateStaticRange = 81
-place_of DescribeStaticRange = 82
+unfoldable pub row_number : Name → ℕ
+row_number NewDocument = 0
+row_number CreateElement = 1
+row_number CreateText = 2
+row_number CreateComment = 3
+row_number CreatePI = 4
+row_number CreateDoctype = 5
+row_number CreateFragment = 6
+row_number InsertBefore = 7
+row_number AppendChild = 8
+row_number AdoptNode = 9
+row_number ReplaceChild = 10
+row_number RemoveChild = 11
+row_number Remove = 12
+row_number ReplaceChildren = 13
+row_number ImportNode = 14
+row_number CloneNode = 15
+row_number Normalize = 16
+row_number DescribeNode = 17
+row_number Children = 18
+row_number Index = 19
+row_number Length = 20
+row_number Root = 21
+row_number IsContaining = 22
+row_number IsEqual = 23
+row_number ComparePosition = 24
+row_number TextContent = 25
+row_number SetTextContent = 26
+row_number Tree = 27
+row_number GetData = 28
+row_number SetData = 29
+row_number AppendData = 30
+row_number InsertData = 31
+row_number DeleteData = 32
+row_number ReplaceData = 33
+row_number SubstringData = 34
+row_number SplitText = 35
+row_number SetAttribute = 36
+row_number GetAttribute = 37
+row_number HasAttribute = 38
+row_number RemoveAttribute = 39
+row_number ToggleAttribute = 40
+row_number AttributeNames = 41
+row_number CreateRange = 42
+row_number CloneRange = 43
+row_number DescribeRange = 44
+row_number SetStart = 45
+row_number SetEnd = 46
+row_number SetStartBefore = 47
+row_number SetStartAfter = 48
+row_number SetEndBefore = 49
+row_number SetEndAfter = 50
+row_number Collapse = 51
+row_number SelectNode = 52
+row_number SelectNodeContents = 53
+row_number CompareBoundaryPoints = 54
+row_number ComparePoint = 55
+row_number IsPointInRange = 56
+row_number IntersectsNode = 57
+row_number CommonAncestor = 58
+row_number RangeText = 59
+row_number DeleteContents = 60
+row_number ExtractContents = 61
+row_number CloneContents = 62
+row_number InsertNode = 63
+row_number SurroundContents = 64
+row_number ReleaseRange = 65
+row_number CreateIterator = 66
+row_number CreateWalker = 67
+row_number DescribeIterator = 68
+row_number NextNode = 69
+row_number PreviousNode = 70
+row_number DescribeWalker = 71
+row_number SetCurrent = 72
+row_number Walk = 73
+row_number CreateObserver = 74
+row_number Observe = 75
+row_number Disconnect = 76
+row_number TakeRecords = 77
+row_number Notify = 78
+row_number Pending = 79
+row_number Discard = 80
+row_number CreateStaticRange = 81
+row_number DescribeStaticRange = 82
 
 unfoldable pub row_of : Name → Row
-unfolding place_of whole_table
-row_of name = slice_index_or whole_table (place_of name) (row [] [] (λ (a : Arguments). model.NewDocument))
+unfolding row_number whole_table
+row_of name = slice_index_or whole_table (row_number name) (row [] [] (λ (a : Arguments). model.NewDocument))
 
 -- a row whose name has so many bytes
 abbrev pub is_of_length : ℕ → Row → Bool

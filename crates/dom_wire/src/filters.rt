@@ -5,7 +5,7 @@ ghost use Rattle.serde_json.specs.View.{view, items_view};
 ghost use Rattle.dom_model.specs.Commands.Line.{named_in, verdict_names, move_names, rule_in, rule_from, each_item, list_in, move_in};
 ghost use Rattle.dom_wire.specs.Reads.{Decodes};
 
-use crate::error::ReadError;
+use crate::read_error::ReadError;
 use dom_model::OwnError;
 use dom_session::{Move, Rule, Verdict};
 use serde_json::Value;

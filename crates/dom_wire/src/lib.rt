@@ -1,22 +1,22 @@
 //! A command read from a line of JSON, and a reply printed as such a line.
 #![tactic(auto)]
 
+mod argument_decoder;
 mod arguments;
-mod decoding;
-mod error;
+mod command_names;
+mod command_reader;
 mod filters;
-mod names;
 mod options;
-mod places;
-mod printing;
-mod reading;
+mod position_printer;
+mod read_error;
 mod records;
+mod reply_printer;
 mod rows;
 mod texts;
 mod values;
 
 /// The session's types that lines are read for and printed from.
 pub use dom_session::{Brief, Command, Ended, Limits, OutOfMemory, OwnError, Reply, Session};
-pub use error::ReadError;
-pub use printing::write_reply;
-pub use reading::read_line;
+pub use read_error::ReadError;
+pub use reply_printer::write_reply;
+pub use command_reader::read_line;

@@ -7,7 +7,7 @@ ghost use Rattle.dom_model.specs.Commands.Line.{if_member, each_item, list_in, o
 ghost use Rattle.dom_observe.specs.Names.{names_of};
 ghost use Rattle.dom_wire.specs.Reads.{Decodes};
 
-use crate::error::ReadError;
+use crate::read_error::ReadError;
 use dom_model::OwnError;
 use dom_session::RawOptions;
 use serde_json::Value;

@@ -6,26 +6,26 @@ ghost use Rattle.dom_model.specs.Commands.Printed.{or_null, number_json, numbers
 ghost use Rattle.dom_wire.specs.Prints.{tokens_of, tokens_of_all, Adds};
 
 use crate::values::{write_maybe_name, write_maybe_node, write_maybe_units, write_nodes};
-use dom_session::{Record, RecordType, Told};
+use dom_session::{Record, RecordType, Notification};
 use json::Writer;
 use std::alloc::{AllocError, Global};
 
 /// Prints an array of observers, each with its records.
 pub(crate) fn write_notified(
     alloc: Global,
-    told: &[Told],
+    told: &[Notification],
     writer: &mut Writer,
 ) -> Result<(), AllocError>
     ensures { Adds result writer.old writer.new (tokens_of (list_json (map told_json told.now))) }
 {
     writer.begin_array()?;
     for one in told {
-        write_told(alloc, one, writer)?;
+        write_notification(alloc, one, writer)?;
     }
     writer.end_array()
 }
 
-fn write_told(alloc: Global, told: &Told, writer: &mut Writer) -> Result<(), AllocError>
+fn write_notification(alloc: Global, told: &Notification, writer: &mut Writer) -> Result<(), AllocError>
     ensures { Adds result writer.old writer.new (tokens_of (told_json told.now)) }
 {
     writer.begin_array()?;

@@ -5,7 +5,7 @@ ghost use Rattle.serde_json.specs.View.{view, items_view};
 ghost use Rattle.dom_model.specs.Commands.Line.{number_in, unit_in, each_item, text_in};
 ghost use Rattle.dom_wire.specs.Reads.{Decodes};
 
-use crate::error::ReadError;
+use crate::read_error::ReadError;
 use dom_model::OwnError;
 use dom_session::Units;
 use serde_json::Value;

@@ -6,7 +6,7 @@ use Rattle.dom_model.specs.Definitions.{hits, among, head_of, past, is_kind, may
 use Rattle.dom_model.proofs.PlainLists.Numbers.{same_or, same, apart}
 use Rattle.dom_model.proofs.Forests.{Changes.seen, Changes.nothing, Changes.just, Climbing.hits-append, Climbing.hits-among, Climbing.hits-not_among, Climbing.hits-self, Climbing.ancestors-there, Listed.hits-other, Paths.parent-path, Indices.child-once, Indices.child-there}
 use Rattle.dom_model.proofs.RangesAndContents.{StartsAhead.got_place}
-use Rattle.dom_wrap.specs.Allowing.{holder_of, is_refused_at}
+use Rattle.dom_wrap.specs.SurroundRefusal.{holder_of, is_refused_at}
 use Rattle.dom_wrap.proofs.{AllowAbove.parent-same, AllowPlaces.element-passes, AllowPlaces.text-passes, AllowChildren.from-place}
 use Rattle.dom_model.proofs.Traversal.IteratorsStay.{hits-past}
 use Rattle.dom_model.proofs.MutationAlgorithms.ChecksKept.{any-same}

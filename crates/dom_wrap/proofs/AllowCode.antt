@@ -12,10 +12,10 @@ use Rattle.dom_model.proofs.BoundaryPoints.RemovalOrder.{ancestors-split}
 use Rattle.dom_model.proofs.Soundness.SoundExtracting.{common_above}
 use Rattle.dom_model.proofs.RangesAndContents.StartsAhead.{got_place}
 use Rattle.dom_ranges.specs.Tables.{range_in}
-use Rattle.dom_edit.specs.{declared.world.World.World, Whole.IsWhole, Whole.unwatched, Places.from_optional, Places.IsAmong}
-use Rattle.dom_edit.proofs.{PlacedWorlds.sound-unwatched, AmongChildren.next_of-child}
-use Rattle.dom_wrap.specs.Allowing.{is_near, is_refused_at, is_refused_between, is_unplaceable, is_left_element, first_behind, surround_refusal_of}
-use Rattle.dom_wrap.proofs.{AllowPlaces.insert-told, AllowPlaces.parent-is, AllowShape.near-told, AllowTold.told_by, AllowWhole.surround-told}
+use Rattle.dom_edit.specs.{declared.world.World.World, Whole.IsWhole, Whole.unwatched, InsertionPoints.from_optional, InsertionPoints.IsAmong}
+use Rattle.dom_edit.proofs.{PlacedWorldLemmas.sound-unwatched, IsAmongLemmas.next_of-child}
+use Rattle.dom_wrap.specs.SurroundRefusal.{is_near, is_refused_at, is_refused_between, is_unplaceable, is_left_element, first_behind, surround_refusal_of}
+use Rattle.dom_wrap.proofs.{AllowPlaces.insert-told, AllowPlaces.parent-is, AllowShape.near-told, SurroundRefusalLemmas.told_by, AllowWhole.surround-told}
 
 -- Going along a list.
 

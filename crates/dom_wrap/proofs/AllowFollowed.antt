@@ -10,7 +10,7 @@ use Rattle.dom_model.proofs.MutationAlgorithms.{Loosened.IsLoosened, Loosened.lo
 use Rattle.dom_model.proofs.Soundness.{SoundData.length-data, SoundWorlds.sound-remove, SoundPlacing.parent_placed, SoundEditing.checks_insert, SoundEditing.insertable, SoundEditing.sound-pre_insert, SoundSplitting.text_has_data, SoundSplitting.made, SoundSplitting.sm, SoundSplitting.parted, SoundSplitting.there-old, SoundSplitting.hp, SoundSplitting.placeable, SoundSplitting.split_off_is, SoundSplitting.forest_is, SoundSplitting.kind-parted, SoundSplitting.sound-split, SoundPlacedNode.Gives, SoundInsertedNode.insert-next}
 use Rattle.dom_model.proofs.BoundaryPoints.SplitEnds.{split_parts}
 use Rattle.dom_model.proofs.RangesAndContents.InsertAllowed.{insert-allowed}
-use Rattle.dom_wrap.specs.Allowing.{holder_of, is_refused_at}
+use Rattle.dom_wrap.specs.SurroundRefusal.{holder_of, is_refused_at}
 use Rattle.dom_wrap.proofs.{InsertedNode.unless-none, InsertedNode.placed-is, AllowAbove.none-or-some, AllowAbove.ancestors-kept, AllowPlaces.element-passes, AllowPlaces.parent-is}
 
 -- what was there stays, with its parents

@@ -7,7 +7,7 @@ use Rattle.dom_model.proofs.PlainLists.Numbers.{same_or, same, apart}
 use Rattle.dom_model.proofs.Forests.{Changes.seen, Changes.nothing, Changes.just, Entries.HasNode-occurs, Climbing.hits-among, Climbing.hits-self, Indices.child-once, Indices.child-parent}
 use Rattle.dom_model.proofs.MutationAlgorithms.ChecksKept.{or_first, or_second}
 use Rattle.dom_model.proofs.RangesAndContents.{StartsAhead.got_place, InsertAllowed.insert-done}
-use Rattle.dom_wrap.specs.Allowing.{holder_of, is_refused_at}
+use Rattle.dom_wrap.specs.SurroundRefusal.{holder_of, is_refused_at}
 use Rattle.dom_model.proofs.Soundness.SoundForests.{passes-also}
 
 -- Kinds.

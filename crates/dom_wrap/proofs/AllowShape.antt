@@ -10,7 +10,7 @@ use Rattle.dom_model.proofs.Forests.{Entries.occurs-HasNode, Totals.IsOnce, Clim
 use Rattle.dom_model.proofs.BoundaryPoints.RemovalOrder.{ancestors-split}
 use Rattle.dom_model.proofs.Soundness.{SoundForests.IsWood, SoundExtracting.none_listed}
 use Rattle.dom_model.proofs.RangesAndContents.{PathsApart.along, PathsApart.along-ancestors, PathsToEnds.holders_above, PathsToEnds.common-above, WaysBelow.IsFork, WaysBelow.fork}
-use Rattle.dom_wrap.specs.Allowing.{is_near}
+use Rattle.dom_wrap.specs.SurroundRefusal.{is_near}
 use Rattle.dom_wrap.proofs.{AllowAbove.none-or-some, AllowAbove.above-within, AllowPlaces.text-passes}
 
 -- an end stands in the common ancestor, or in a Text that is a child of it

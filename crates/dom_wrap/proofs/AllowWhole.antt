@@ -10,8 +10,8 @@ use Rattle.dom_model.proofs.BoundaryPoints.PointOrder.{nat_cmp-same, nat_cmp-gre
 use Rattle.dom_model.proofs.MutationAlgorithms.ChecksKept.{or_first, or_second}
 use Rattle.dom_model.proofs.Soundness.{SoundForests.entry_there, SoundForests.child-fits, SoundForests.data-childless, SoundDeleting.not_contained, SoundContents.sound-extracted, SoundEditing.sound-replace_all, SoundNormalizing.filter-passed, SoundExtracting.none_listed, SoundRangeSteps.live_range, SoundWorlds.IsLive}
 use Rattle.dom_model.proofs.RangesAndContents.PlacesLeft.{place_is}
-use Rattle.dom_wrap.specs.Allowing.{is_refused_between, is_unplaceable, surround_refusal_of, surround_refusal}
-use Rattle.dom_wrap.proofs.{AllowAbove.none-or-some, AllowCleared.emptied, AllowPlaces.start-told, AllowPlaces.refusal-unless, AllowPlaces.parent-is, AllowPlaces.found, AllowShape.start_near, AllowShape.end_near, AllowChildren.place-taken, AllowDrawn.IsTaken, AllowDrawn.extracted-still, AllowDrawn.extracted-left, AllowFollowed.third, AllowFollowed.inserted_is, AllowFollowed.kind_third, AllowAlike.common-self, AllowTold.steps_from, AllowTold.told_by, AllowTold.refused-first, AllowTold.told-still, AllowTold.told-left}
+use Rattle.dom_wrap.specs.SurroundRefusal.{is_refused_between, is_unplaceable, surround_refusal_of, surround_refusal}
+use Rattle.dom_wrap.proofs.{AllowAbove.none-or-some, AllowCleared.emptied, AllowPlaces.start-told, AllowPlaces.refusal-unless, AllowPlaces.parent-is, AllowPlaces.found, AllowShape.start_near, AllowShape.end_near, AllowChildren.place-taken, AllowDrawn.IsTaken, AllowDrawn.extracted-still, AllowDrawn.extracted-left, AllowFollowed.third, AllowFollowed.inserted_is, AllowFollowed.kind_third, AllowAlike.common-self, SurroundRefusalLemmas.steps_from, SurroundRefusalLemmas.told_by, SurroundRefusalLemmas.refused-first, SurroundRefusalLemmas.told-still, SurroundRefusalLemmas.told-left}
 
 any-some : (p : ℕ → Bool) (ns : List ℕ) → list_any p ns ≡ true → (m : ℕ) × (0 < hits m ns) × (p m ≡ true)
 any-some p [] e = absurd (false≢true e)

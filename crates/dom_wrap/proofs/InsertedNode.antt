@@ -9,11 +9,11 @@ use Rattle.dom_model.proofs.Forests.{Entries.HasNode-occurs, Entries.occurs-HasN
 use Rattle.dom_model.proofs.BoundaryPoints.{PointOrder.nat_cmp-same, PointOrder.nat_cmp-greater, SplitEnds.split_parts}
 use Rattle.dom_model.proofs.RangesAndContents.{StartsAhead.got_place, InsertAllowed.insert-allowed, InsertAllowed.insert-done, RangesSet.same-itself}
 use Rattle.dom_model.proofs.Soundness.{SoundPlacedNode.Gives, SoundInsertedNode.insert-next, SoundData.length-data, SoundSplitting.text_has_data, SoundRangeSteps.live_range, SoundWorlds.IsLive}
-use Rattle.dom_edit.proofs.{Leaving.parent-held, Following.keeps-unwatched, Following.follows-then, Following.whole-sound, PlacedWorlds.sound-unwatched, InsertedNodes.follows-as, InsertedNodes.forest-after}
+use Rattle.dom_edit.proofs.{RemoveLemmas.parent-held, FollowsLemmas.keeps-unwatched, FollowsLemmas.follows-then, FollowsLemmas.whole-sound, PlacedWorldLemmas.sound-unwatched, InsertLemmas.follows-as, InsertLemmas.forest-after}
 use Rattle.dom_model.proofs.MutationAlgorithms.ChecksKept.{refusal-head}
-use Rattle.dom_ranges.specs.Tables.{RangeTable, range_in, refused}
-use Rattle.dom_edit.specs.{declared.world.World.World, Whole.AreCovered, Whole.IsWhole, Whole.Keeps, Whole.Follows, Whole.unwatched}
-use Rattle.dom_wrap.specs.Outcomes.{left_by, LeavesSound, IsPlaceable, MayEndAt, MayTake}
+use Rattle.dom_ranges.specs.Tables.{RangeTable, range_in, result_of_check}
+use Rattle.dom_edit.specs.{declared.world.World.World, Whole.CoversHeld, Whole.IsWhole, Whole.Keeps, Whole.Follows, Whole.unwatched}
+use Rattle.dom_wrap.specs.Outcomes.{world_after_outcome, LeavesSound, MayBePlacedAt, MayEndAt, MayTake}
 
 -- Where a node comes in.
 
@@ -125,11 +125,11 @@ module _ (v : World) (h : IsWhole v) (r : ℕ) (p : Point) (range : Range) (e : 
       within whole o le = grind (arith, nat_tests)
 
   -- to set the end is not refused
-  pub set-done : MayEndAt v r p → is_collapsed range ≡ true → (t : RangeTable) (result : Result (Unit {0}) DomError) → result ≡ refused (check_point unit_count v.tree.forest p) →
+  pub set-done : MayEndAt v r p → is_collapsed range ≡ true → (t : RangeTable) (result : Result (Unit {0}) DomError) → result ≡ result_of_check (check_point unit_count v.tree.forest p) →
       OnOk result (IfSome (range_in v.ranges r) (λ x. t ≡ record v.ranges { ranges = slice_set v.ranges.ranges r (Some (end_set v.tree.forest p x)) })) →
       t ≡ record v.ranges { ranges = slice_set v.ranges.ranges r (Some (end_set v.tree.forest p range)) }
   set-done m c t result i set =
-      let passes = i ∙ ap refused (point-passes (grown-range m c).ends) in
+      let passes = i ∙ ap result_of_check (point-passes (grown-range m c).ends) in
       let done = subst (λ (x : Result (Unit {0}) DomError). OnOk x (IfSome (range_in v.ranges r) (λ x. t ≡ record v.ranges { ranges = slice_set v.ranges.ranges r (Some (end_set v.tree.forest p x)) }))) passes set in
       subst (λ (o : Option Range). IfSome o (λ x. t ≡ record v.ranges { ranges = slice_set v.ranges.ranges r (Some (end_set v.tree.forest p x)) })) e done
 
@@ -151,7 +151,7 @@ module _ (v : World) (h : IsWhole v) (r : ℕ) (p : Point) (range : Range) (e : 
 
     pub whole-ended : IsWhole (record v { ranges = t })
     whole-ended =
-        let covers : AreCovered v.tree t.covered = subst (AreCovered v.tree) (sym (ap (λ (x : RangeTable). x.covered) is)) h.covered in
+        let covers : CoversHeld v.tree t.covered = subst (CoversHeld v.tree) (sym (ap (λ (x : RangeTable). x.covered) is)) h.covered in
         whole-sound (record v { ranges = t }) (end_if_collapsed r p m.stands_for) (follows-ended.keeps m.stands_for m.keeps) m.sound h.documents h.owners covers h.statics h.observers
 
 -- Steps that are not refused.
@@ -164,7 +164,7 @@ pub unless-allows : (c : Option DomError) (w : model.World) (step : model.World 
 unless-allows None w step i = (refl, i)
 unless-allows (Some d) w step i = absurd (cc i)
 
-pub left-alike : (o : Outcome) → refusal_in o ≡ None → (a b : model.World) → left_by o a ≡ left_by o b
+pub left-alike : (o : Outcome) → refusal_in o ≡ None → (a b : model.World) → world_after_outcome o a ≡ world_after_outcome o b
 left-alike (Ok w) i a b = refl
 left-alike (Err d) i a b = absurd (cc i)
 
@@ -177,7 +177,7 @@ placed-is r n parent reference w i =
     ap (λ (o : Outcome). and_then o (λ v. Ok (end_if_collapsed r point v))) (unless-none (check_insert out.forest parent n reference) out (λ v. Ok (pre_insert n parent reference v)) i)
 
 -- a node that may be placed passes once it is taken out
-pub passes-out : (a out : World) (r n parent : ℕ) (reference : Option ℕ) → Follows a out (remove false n) → IsPlaceable a r n parent reference → check_insert out.tree.forest parent n reference ≡ None
+pub passes-out : (a out : World) (r n parent : ℕ) (reference : Option ℕ) → Follows a out (remove false n) → MayBePlacedAt a r n parent reference → check_insert out.tree.forest parent n reference ≡ None
 passes-out a out r n parent reference f m = sym (ap (λ (g : Forest Content). check_insert g parent n reference) (f.keeps m.stands_for m.keeps).forest) ∙ m.passes
 
 -- an old world, that without the node, and that in which the node has come in
@@ -209,17 +209,17 @@ module _ (a out placed : World) (r n parent : ℕ) (reference : Option ℕ) (off
     placed-allowed w k = ap refusal_in (placed-so passes w k)
 
     module _ (g : Follows out placed (pre_insert n parent reference)) where
-      pub may-end : IsPlaceable a r n parent reference → MayEndAt placed r behind
+      pub may-end : MayBePlacedAt a r n parent reference → MayEndAt placed r behind
       may-end m = record {
         stands_for = pre_insert n parent reference (outside m.stands_for);
         keeps = g.keeps (outside m.stands_for) (f.keeps m.stands_for m.keeps);
         sound = subst LeavesSound (placed-so passes m.stands_for m.keeps) m.sound;
       }
 
-      pub follows-placed : (new : World) → Follows placed new (end_if_collapsed r behind) → Follows a new (λ w. left_by (placed_at r n parent reference w) w)
+      pub follows-placed : (new : World) → Follows placed new (end_if_collapsed r behind) → Follows a new (λ w. world_after_outcome (placed_at r n parent reference w) w)
       follows-placed new last =
-          follows-as a new (λ w. end_if_collapsed r behind (pre_insert n parent reference (outside w))) (λ w. left_by (placed_at r n parent reference w) w)
-          (λ w k. ap (λ (o : Outcome). left_by o w) (placed-so passes w k))
+          follows-as a new (λ w. end_if_collapsed r behind (pre_insert n parent reference (outside w))) (λ w. world_after_outcome (placed_at r n parent reference w) w)
+          (λ w k. ap (λ (o : Outcome). world_after_outcome o w) (placed-so passes w k))
           (follows-then a placed new (λ w. pre_insert n parent reference (outside w)) (end_if_collapsed r behind) (follows-then a out placed (outside) (pre_insert n parent reference) f g) last)
 
 -- Steps that look at what is kept alone.
@@ -342,7 +342,7 @@ module _ (a mid : World) (h : IsWhole a) (r n : ℕ) (p : Point) (range : Range)
         ∙ ap (λ (q : ℕ). placed_at r n q (reference_child (split_at p w) n (reference_after w p)) (split_at p w)) (parent-alike a p w k ∙ sym ep)
         ∙ ap (λ (b : Option ℕ). placed_at r n parent b (split_at p w)) (reference-is w k)
 
-    pub placeable : IsPlaceable mid r n parent reference
+    pub placeable : MayBePlacedAt mid r n parent reference
     placeable = record {
       stands_for = split_at p u;
       keeps = f.keeps u (keeps-unwatched a);
@@ -358,8 +358,8 @@ module _ (a mid : World) (h : IsWhole a) (r n : ℕ) (p : Point) (range : Range)
       pub insert-allowed-so : refusal_in (insert_node r n u) ≡ None
       insert-allowed-so = ap refusal_in (placed-from u (keeps-unwatched a)) ∙ allowed (split_at p u) (f.keeps u (keeps-unwatched a))
 
-      pub follows-inserted : (new : World) → Follows mid new (λ w. left_by (placed_at r n parent reference w) w) → Follows a new (λ w. left_by (insert_node r n w) w)
+      pub follows-inserted : (new : World) → Follows mid new (λ w. world_after_outcome (placed_at r n parent reference w) w) → Follows a new (λ w. world_after_outcome (insert_node r n w) w)
       follows-inserted new last =
-          follows-as a new (λ w. left_by (placed_at r n parent reference (split_at p w)) (split_at p w)) (λ w. left_by (insert_node r n w) w)
-          (λ w k. ap (λ (o : Outcome). left_by o w) (placed-from w k) ∙ left-alike (placed_at r n parent reference (split_at p w)) (allowed (split_at p w) (f.keeps w k)) w (split_at p w))
-          (follows-then a mid new (split_at p) (λ w. left_by (placed_at r n parent reference w) w) f last)
+          follows-as a new (λ w. world_after_outcome (placed_at r n parent reference (split_at p w)) (split_at p w)) (λ w. world_after_outcome (insert_node r n w) w)
+          (λ w k. ap (λ (o : Outcome). world_after_outcome o w) (placed-from w k) ∙ left-alike (placed_at r n parent reference (split_at p w)) (allowed (split_at p w) (f.keeps w k)) w (split_at p w))
+          (follows-then a mid new (split_at p) (λ w. world_after_outcome (placed_at r n parent reference w) w) f last)

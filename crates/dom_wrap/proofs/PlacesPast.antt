@@ -10,11 +10,11 @@ use Rattle.dom_model.proofs.Worlds.Measured.{length-parent}
 use Rattle.dom_model.proofs.Soundness.SoundEditing.{IsChecked, checks}
 use Rattle.dom_model.proofs.RangesAndContents.{Drawing.passes_there, PlacesLeft.length_within}
 use Rattle.dom_edit.specs.{declared.world.World.World, Whole.IsWhole, Whole.unwatched}
-use Rattle.dom_wrap.specs.Outcomes.{index_before}
-use Rattle.dom_edit.proofs.PlacedRoots.{length-numbers}
+use Rattle.dom_wrap.specs.Outcomes.{insertion_index}
+use Rattle.dom_edit.proofs.PlacedInLemmas.{length-numbers}
 
 -- the offset is the sum of an index and a count
-pub offset-sum : (w : model.World) (parent : ℕ) (reference : Option ℕ) (n : ℕ) → offset_past w parent reference n ≡ index_before w parent reference + length (nodes_of w n)
+pub offset-sum : (w : model.World) (parent : ℕ) (reference : Option ℕ) (n : ℕ) → offset_past w parent reference n ≡ insertion_index w parent reference + length (nodes_of w n)
 offset-sum w parent None n = refl
 offset-sum w parent (Some c) n = refl
 
@@ -95,7 +95,7 @@ module _ (v : World) (h : IsWhole v) (parent n : ℕ) (reference : Option ℕ) (
       go true = children-and-children
       go false = children-and-one
 
-  index-within : (r : Option ℕ) → reference ≡ r → index_before (unwatched v) parent r ≤ length (children_of f parent)
+  index-within : (r : Option ℕ) → reference ≡ r → insertion_index (unwatched v) parent r ≤ length (children_of f parent)
   index-within None e = let l = length-parent f parent checked.may_hold in omega arith
   index-within (Some c) e =
       let up = child-is c e in
@@ -107,5 +107,5 @@ module _ (v : World) (h : IsWhole v) (parent n : ℕ) (reference : Option ℕ) (
       child-is : (c : ℕ) → reference ≡ Some c → parent_of f c ≡ Some parent
       child-is c e = rw e at checked.child_of
 
-  pub sum-within : index_before (unwatched v) parent reference + length (nodes_of (unwatched v) n) ≤ size v.tree.forest
+  pub sum-within : insertion_index (unwatched v) parent reference + length (nodes_of (unwatched v) n) ≤ size v.tree.forest
   sum-within = let a = index-within reference refl in let b = both in omega arith

@@ -7,7 +7,7 @@ use Rattle.dom_model.specs.Worlds.World as model
 use Rattle.dom_model.proofs.Counting.{CountsKept.remove-kept, CountsKept.insert-kept, CountsKept.pre_insert-kept, CountsKept.replace_all-kept, CountsOfExtraction.IsGrownTo, CountsOfExtraction.insert_node-to}
 use Rattle.dom_model.proofs.RangesAndContents.LiveRangesKept.{live-there}
 use Rattle.dom_edit.specs.{declared.world.World.World, Whole.Keeps, Whole.unwatched}
-use Rattle.dom_wrap.specs.Outcomes.{left_by, HasRoom, put_around}
+use Rattle.dom_wrap.specs.Outcomes.{world_after_outcome, HasNumberForSplit, put_around}
 use Rattle.dom_wrap.proofs.InsertedNode.{unless-none, unless-allows}
 
 -- Steps that make so many nodes or more, where they are not refused.
@@ -16,7 +16,7 @@ abbrev LeastBy : ℕ → model.World → Outcome → Type 0
 LeastBy more w (Ok v) = w.made + more ≤ v.made
 LeastBy more w (Err e) = Unit {0}
 
-least-left : (more : ℕ) (w : model.World) (o : Outcome) → LeastBy more w o → refusal_in o ≡ None → (x : model.World) → w.made + more ≤ (left_by o x).made
+least-left : (more : ℕ) (w : model.World) (o : Outcome) → LeastBy more w o → refusal_in o ≡ None → (x : model.World) → w.made + more ≤ (world_after_outcome o x).made
 least-left more w (Ok v) l i x = l
 least-left more w (Err e) l i x = absurd (cc i)
 
@@ -102,7 +102,7 @@ put_around-least more r n fragment w l =
 
 -- The steps of a surrounding that is allowed.
 
-module _ (r n : ℕ) (w : model.World) (live : is_some (range_at w r) ≡ true) (allowed : check_whole_surround r n w ≡ None) (room : (left_by (surround r n w) w).made ≤ 4294967295) where
+module _ (r n : ℕ) (w : model.World) (live : is_some (range_at w r) ≡ true) (allowed : check_whole_surround r n w ≡ None) (room : (world_after_outcome (surround r n w) w).made ≤ 4294967295) where
   abbrev emptied : model.World
   emptied = replace_all None n (extract r w)
 
@@ -134,7 +134,7 @@ module _ (r n : ℕ) (w : model.World) (live : is_some (range_at w r) ≡ true) 
   least-emptied more l =
       let i : refusal_in (put_around r n w.made emptied) ≡ None = sym (ap refusal_in surround-is) ∙ allowed in
       let k = least-left more emptied (put_around r n w.made emptied) (put_around-least more r n w.made emptied l) i w in
-      let made : (left_by (surround r n w) w).made ≡ (left_by (put_around r n w.made emptied) w).made = ap (λ (o : Outcome). (left_by o w).made) surround-is in
+      let made : (world_after_outcome (surround r n w) w).made ≡ (world_after_outcome (put_around r n w.made emptied) w).made = ap (λ (o : Outcome). (world_after_outcome o w).made) surround-is in
       omega arith
 
   pub room-extract : (extract r w).made ≤ 4294967295
@@ -147,7 +147,7 @@ module _ (r n : ℕ) (w : model.World) (live : is_some (range_at w r) ≡ true) 
   room-text : (range : Range) → range_at emptied r ≡ Some range → is_text emptied range.start.node ≡ true → emptied.made < 4294967295
   room-text range e t = let m = least-emptied 1 (insert_text-least r n range emptied e t) in omega arith
 
-  pub room-emptied : (c : World) → Keeps c emptied → HasRoom c r
+  pub room-emptied : (c : World) → Keeps c emptied → HasNumberForSplit c r
   room-emptied c k range e t =
       subst (λ (m : ℕ). m < 4294967295) k.made
       (room-text range (ap (λ (rs : List (Option Range)). slice_index_or rs r None) k.ranges ∙ e) (ap (λ (g : Forest Content). is_text (record (unwatched c) { forest = g }) range.start.node) k.forest ∙ t))

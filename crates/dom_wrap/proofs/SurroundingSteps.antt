@@ -9,9 +9,9 @@ use Rattle.dom_model.proofs.RangesAndContents.{InsertAllowed.insert-done, LiveRa
 use Rattle.dom_model.proofs.Soundness.{SoundEditing.checks_insert, SoundEditing.insertable, SoundRangeSteps.sound-with_range}
 use Rattle.dom_model.proofs.TokenText.{EditsMade.EditsOfDrawnContents.sound-range, EditsMade.EditsOfDrawnContents.check-range, EditsMade.EditsOfDrawnContents.there-contents_drawn, EditsMade.EditsOfDrawnContents.fragment-contents_drawn, EditsMade.EditsOfDrawnContents.live-contents_drawn, EditsMade.EditsOfInsertedNodes.kept-insert_node}
 use Rattle.dom_ranges.specs.Tables.{RangeTable, range_in}
-use Rattle.dom_edit.specs.{declared.world.World.World, Keeping.present, Whole.AreCovered, Whole.IsWhole, Whole.Keeps, Whole.Follows, Whole.unwatched}
-use Rattle.dom_edit.proofs.{Following.keeps-unwatched, Following.follows-then, Following.whole-sound, Leaving.sound-unwatched, Leaving.it_is, InsertedNodes.follows-as, WatchersKept.present-set}
-use Rattle.dom_wrap.specs.Outcomes.{left_by, Passes, MayTake, put_around}
+use Rattle.dom_edit.specs.{declared.world.World.World, KeptNodes.present, Whole.CoversHeld, Whole.IsWhole, Whole.Keeps, Whole.Follows, Whole.unwatched}
+use Rattle.dom_edit.proofs.{FollowsLemmas.keeps-unwatched, FollowsLemmas.follows-then, FollowsLemmas.whole-sound, RemoveLemmas.sound-unwatched, RemoveLemmas.it_is, InsertLemmas.follows-as, KeepsWatchersLemmas.present-set}
+use Rattle.dom_wrap.specs.Outcomes.{world_after_outcome, Passes, MayTake, put_around}
 use Rattle.dom_wrap.proofs.InsertedNode.{unless-none, unless-allows, left-alike, start-alike, parent-alike, reference-alike}
 
 -- Steps that are not refused.
@@ -20,14 +20,14 @@ pub on-ok_both : {E P Q R : Type 0} (o : Result (Unit {0}) E) → (P → Q → R
 on-ok_both (Ok u) f p q = f p q
 on-ok_both (Err e) f p q = tt
 
-pub ok-left : (o : Outcome) → refusal_in o ≡ None → (w : model.World) → o ≡ Ok (left_by o w)
+pub ok-left : (o : Outcome) → refusal_in o ≡ None → (w : model.World) → o ≡ Ok (world_after_outcome o w)
 ok-left (Ok v) i w = refl
 ok-left (Err d) i w = absurd (cc i)
 
 pub passes-as : (a b : World) (s t : model.World → Outcome) → ((w : model.World) → Keeps a w → t w ≡ s w) → Passes a b s → Passes a b t
 passes-as a b s t e p = record {
   allowed = λ w k. ap refusal_in (e w k) ∙ p.allowed w k;
-  follows = follows-as a b (λ w. left_by (s w) w) (λ w. left_by (t w) w) (λ w k. ap (λ (o : Outcome). left_by o w) (e w k)) p.follows;
+  follows = follows-as a b (λ w. world_after_outcome (s w) w) (λ w. world_after_outcome (t w) w) (λ w k. ap (λ (o : Outcome). world_after_outcome o w) (e w k)) p.follows;
 }
 
 -- a step that is never refused
@@ -42,7 +42,7 @@ passes-checked a b check step c f =
 -- one after another
 module _ (a b c : World) (first second : model.World → Outcome) (p : Passes a b first) (q : Passes b c second) where
   abbrev left : model.World → model.World
-  left w = left_by (first w) w
+  left w = world_after_outcome (first w) w
 
   joined : (w : model.World) → Keeps a w → and_then (first w) second ≡ second (left w)
   joined w k = ap (λ (o : Outcome). and_then o second) (ok-left (first w) (p.allowed w k) w)
@@ -51,9 +51,9 @@ module _ (a b c : World) (first second : model.World → Outcome) (p : Passes a 
   passes-then = record {
     allowed = λ w k. ap refusal_in (joined w k) ∙ q.allowed (left w) (p.follows.keeps w k);
     follows =
-        follows-as a c (λ w. left_by (second (left w)) (left w)) (λ w. left_by (and_then (first w) second) w)
-        (λ w k. ap (λ (o : Outcome). left_by o w) (joined w k) ∙ left-alike (second (left w)) (q.allowed (left w) (p.follows.keeps w k)) w (left w))
-        (follows-then a b c left (λ w. left_by (second w) w) p.follows q.follows);
+        follows-as a c (λ w. world_after_outcome (second (left w)) (left w)) (λ w. world_after_outcome (and_then (first w) second) w)
+        (λ w k. ap (λ (o : Outcome). world_after_outcome o w) (joined w k) ∙ left-alike (second (left w)) (q.allowed (left w) (p.follows.keeps w k)) w (left w))
+        (follows-then a b c left (λ w. world_after_outcome (second w) w) p.follows q.follows);
   }
 
 -- Steps that are not refused, one after another.
@@ -62,16 +62,16 @@ first-taken : (o : Outcome) (step : model.World → Outcome) → refusal_in (and
 first-taken (Ok w) step i = refl
 first-taken (Err d) step i = i
 
-next-taken : (o : Outcome) (step : model.World → Outcome) (w : model.World) → refusal_in (and_then o step) ≡ None → refusal_in (step (left_by o w)) ≡ None
+next-taken : (o : Outcome) (step : model.World → Outcome) (w : model.World) → refusal_in (and_then o step) ≡ None → refusal_in (step (world_after_outcome o w)) ≡ None
 next-taken (Ok v) step w i = i
 next-taken (Err d) step w i = absurd (cc i)
 
 pub take-first : (a : World) (first second : model.World → Outcome) → MayTake a (λ w. and_then (first w) second) → MayTake a first
 take-first a first second m = record { stands_for = m.stands_for; keeps = m.keeps; passes = first-taken (first m.stands_for) second m.passes }
 
-pub take-next : (a b : World) (first second : model.World → Outcome) → MayTake a (λ w. and_then (first w) second) → Follows a b (λ w. left_by (first w) w) → MayTake b second
+pub take-next : (a b : World) (first second : model.World → Outcome) → MayTake a (λ w. and_then (first w) second) → Follows a b (λ w. world_after_outcome (first w) w) → MayTake b second
 take-next a b first second m f = record {
-  stands_for = left_by (first m.stands_for) m.stands_for;
+  stands_for = world_after_outcome (first m.stands_for) m.stands_for;
   keeps = f.keeps m.stands_for m.keeps;
   passes = next-taken (first m.stands_for) second m.stands_for m.passes;
 }
@@ -188,7 +188,7 @@ stays-emptied a b h r n f =
 
 -- The node comes in.
 
-module _ (a b : World) (h : IsWhole a) (r n : ℕ) (held : HasNode a.tree.forest n) (i : refusal_in (insert_node r n (unwatched a)) ≡ None) (f : Follows a b (λ w. left_by (insert_node r n w) w)) where
+module _ (a b : World) (h : IsWhole a) (r n : ℕ) (held : HasNode a.tree.forest n) (i : refusal_in (insert_node r n (unwatched a)) ≡ None) (f : Follows a b (λ w. world_after_outcome (insert_node r n w) w)) where
   abbrev before : model.World
   before = unwatched a
 
@@ -223,7 +223,7 @@ module _ (a b : World) (h : IsWhole a) (r n : ℕ) (held : HasNode a.tree.forest
 
   pub stays-inserted : Stays a b r
   stays-inserted =
-      let v = left_by (insert_node r n before) before in
+      let v = world_after_outcome (insert_node r n before) before in
       let k = kept-insert_node r n before v (sound-unwatched a h) (occurs-HasNode a.tree.forest n held) (ok-left (insert_node r n before) i before) in
       stays-by a b r v (f.keeps before (keeps-unwatched a)) k.there k.live
 
@@ -286,7 +286,7 @@ module _ (v : World) (h : IsWhole v) (r n : ℕ) (t : RangeTable) (ends : Range)
       let u = unwatched v in
       let s = sound-unwatched v h in
       let i : IsRange v.tree.forest ends = subst (λ (o : Option Range). IfSome o (IsRange v.tree.forest)) e (range_selected s.forest n) in
-      let covers : AreCovered v.tree t.covered = subst (AreCovered v.tree) (sym (ap (λ (x : RangeTable). x.covered) is)) h.covered in
+      let covers : CoversHeld v.tree t.covered = subst (CoversHeld v.tree) (sym (ap (λ (x : RangeTable). x.covered) is)) h.covered in
       whole-sound around_it (with_range r ends u) (follows-ends.keeps u (keeps-unwatched v)) (sound-with_range r ends u s i) h.documents h.owners covers h.statics h.observers
 
 module _ (v : World) (h : IsWhole v) (r n : ℕ) (t : RangeTable) (allowed : check_parent v.tree.forest n ≡ None)
@@ -357,5 +357,5 @@ module _ (a b c d : World) (h : IsWhole a) (r n : ℕ) (held : IsSome (range_in 
       ∙ unless-none (check_surround w range n) w _ (ap (λ (g : Forest Content). check_surround (record (unwatched a) { forest = g }) range n) k.forest ∙ check-passes)
       ∙ ap (λ (fragment : ℕ). and_then (try_extract r w) (rest fragment)) k.made
 
-  pub follows-surrounded : Follows a d (λ w. left_by (surround r n w) w)
+  pub follows-surrounded : Follows a d (λ w. world_after_outcome (surround r n w) w)
   follows-surrounded = (passes-as a d whole (surround r n) surround-is passes-whole).follows

@@ -14,9 +14,9 @@ use Rattle.dom_ranges.specs.Tables.{range_in}
 use Rattle.dom_edit.specs.Whole.{Keeps, Follows, unwatched}
 
 -- the world after the steps; the world as it was where one of them refuses
-abbrev pub left_by : Outcome → model.World → model.World
-left_by (Ok next) w = next
-left_by (Err e) w = w
+abbrev pub world_after_outcome : Outcome → model.World → model.World
+world_after_outcome (Ok next) w = next
+world_after_outcome (Err e) w = w
 
 -- a world that the steps leave is sound
 abbrev pub LeavesSound : Outcome → Type 0
@@ -24,12 +24,12 @@ LeavesSound (Ok next) = IsSound next
 LeavesSound (Err e) = Unit {0}
 
 -- the index before a child of a parent, or behind the last
-abbrev pub index_before : model.World → ℕ → Option ℕ → ℕ
-index_before w parent None = length_at w parent
-index_before w parent (Some c) = index_of w.forest c
+abbrev pub insertion_index : model.World → ℕ → Option ℕ → ℕ
+insertion_index w parent None = length_at w parent
+insertion_index w parent (Some c) = index_of w.forest c
 
 -- a node that is taken out may come in before the reference, and what is left is sound
-pub record IsPlaceable (v : World) (r n parent : ℕ) (reference : Option ℕ) : Type 0 where
+pub record MayBePlacedAt (v : World) (r n parent : ℕ) (reference : Option ℕ) : Type 0 where
   pub stands_for : model.World
   pub keeps : Keeps v stands_for
   pub passes : check_insert (remove false n stands_for).forest parent n reference ≡ None
@@ -48,13 +48,13 @@ pub record MayTake (v : World) (steps : model.World → Outcome) : Type 0 where
   pub passes : refusal_in (steps stands_for) ≡ None
 
 -- where a range starts in a Text, one more node may be made
-abbrev pub HasRoom : World → ℕ → Type 0
-HasRoom v r = ForSome (range_in v.ranges r) (λ (range : Range). is_text (unwatched v) range.start.node ≡ true → v.tree.made < 4294967295)
+abbrev pub HasNumberForSplit : World → ℕ → Type 0
+HasNumberForSplit v r = ForSome (range_in v.ranges r) (λ (range : Range). is_text (unwatched v) range.start.node ≡ true → v.tree.made < 4294967295)
 
 -- no world that the old one keeps is refused the steps, and what they leave of it the new one keeps
 pub record Passes (old new : World) (steps : model.World → Outcome) : Type 0 where
   pub allowed : (w : model.World) → Keeps old w → refusal_in (steps w) ≡ None
-  pub follows : Follows old new (λ w. left_by (steps w) w)
+  pub follows : Follows old new (λ w. world_after_outcome (steps w) w)
 
 -- a node goes in at the start of a range, takes in what a fragment has, and is selected
 abbrev pub put_around : ℕ → ℕ → ℕ → model.World → Outcome

@@ -1,11 +1,11 @@
 //! Inserting into a live range, and surrounding it (DOM Standard, "Interface Range", insertNode, surroundContents).
 #![tactic(auto)]
 
-mod allowing;
-mod inserting;
+mod insert_into_range;
 pub mod laws;
-mod surrounding;
+mod surround_check;
+mod surround_contents;
 
-pub use allowing::can_surround;
-pub use inserting::insert_node;
-pub use surrounding::surround;
+pub use surround_check::can_surround;
+pub use insert_into_range::insert_node;
+pub use surround_contents::surround;

@@ -1,2 +1,2 @@
-pub mod Faults
-pub mod Said
+pub mod FaultLemmas
+pub mod SaysFaultLemmas

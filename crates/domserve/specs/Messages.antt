@@ -12,11 +12,11 @@ use Rattle.dom_serve.specs.declared.fault.Fault.{Fault}
 use Rattle.dom_serve.specs.declared.fault.Fault.TheVariants.{Read, Write, Memory, InputTooLong}
 
 -- the first words of a fault's message
-abbrev pub text_of : Fault → List ℕ
-text_of Read = codes "domserve: read failed"
-text_of Write = codes "domserve: write failed"
-text_of Memory = codes "domserve: out of memory"
-text_of InputTooLong = codes "domserve: input too long"
+abbrev pub fault_message : Fault → List ℕ
+fault_message Read = codes "domserve: read failed"
+fault_message Write = codes "domserve: write failed"
+fault_message Memory = codes "domserve: out of memory"
+fault_message InputTooLong = codes "domserve: input too long"
 
 -- the last error of the stream that failed, of the reader's and the writer's
 abbrev pub reason_of : Fault → Option Error → Option Error → Option Error
@@ -65,7 +65,7 @@ SaysBecause errors text reason old new =
 -- by whether the fault is silent
 abbrev pub SaysUnless : {E : Type 0} → Bool → Writing E → E → E → Fault → Option Error → Type 0
 SaysUnless true errors old new fault reason = new ≡ old
-SaysUnless false errors old new fault reason = SaysBecause errors (text_of fault) reason old new
+SaysUnless false errors old new fault reason = SaysBecause errors (fault_message fault) reason old new
 
 -- the fault's text was said, and its reason if there is one; of a closed pipe nothing was
 abbrev pub SaysFault : {E : Type 0} → Writing E → E → E → Fault → Option Error → Type 0

@@ -25,26 +25,26 @@ status_at false Memory = 1
 status_at false InputTooLong = 3
 
 -- 1 out of memory, 141 at a closed pipe, and 3 otherwise
-abbrev pub status_of : Fault → Option Error → ℕ
-status_of fault reason = status_at (is_silent fault reason) fault
+abbrev pub fault_exit_status : Fault → Option Error → ℕ
+fault_exit_status fault reason = status_at (is_silent fault reason) fault
 
 -- a status of a failed stream, or of an input that is too long
 abbrev pub IsFailure : ℕ → Type 0
 IsFailure status = (status ≡ 3) ⊎ (status ≡ 141)
 
 -- no read failed; or the last one did, and the status is 3
-abbrev pub TellsFailedRead : ℕ → (Bool → Type 0) → Type 0
-TellsFailedRead status calls = calls false ⊎ ((status ≡ 3) × calls true)
+abbrev pub ReportsFailedRead : ℕ → (Bool → Type 0) → Type 0
+ReportsFailedRead status calls = calls false ⊎ ((status ≡ 3) × calls true)
 
 -- no write or flush failed; or the last one did, and the status says so
-abbrev pub TellsFailedWrite : ℕ → (Bool → Type 0) → Type 0
-TellsFailedWrite status calls = calls false ⊎ (IsFailure status × calls true)
+abbrev pub ReportsFailedWrite : ℕ → (Bool → Type 0) → Type 0
+ReportsFailedWrite status calls = calls false ⊎ (IsFailure status × calls true)
 
 -- one fault, with its reason, has this status, was said, and is the one that the program came to
-pub record TellsFault (status : ℕ) (reason : Fault → Option Error)
+pub record ReportsFault (status : ℕ) (reason : Fault → Option Error)
     (said : Fault → Option Error → Type 0) (came_to : Fault → Type 0) : Type 0 where
   pub fault : Fault
-  pub status_is : status ≡ status_of fault (reason fault)
+  pub status_is : status ≡ fault_exit_status fault (reason fault)
   pub says : said fault (reason fault)
   pub comes : came_to fault
 

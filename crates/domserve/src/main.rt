@@ -2,13 +2,13 @@
 #![tactic(auto)]
 
 mod patient;
-mod running;
+mod program;
 #[cfg(test)]
 mod tests;
 
 use dom_serve::{FromRead, ToWrite, write_line};
 pub use patient::Patient;
-pub use running::{fault_text, run};
+pub use program::{fault_text, run};
 use std::env;
 use std::io::{ErrorKind, IsTerminal};
 use std::process::ExitCode;
@@ -18,11 +18,11 @@ fn main(rt: HostRuntime) -> ExitCode {
     let words: Vec<String> = match env::args(&rt) {
         Ok(args) => match args.collect(rt.alloc()) {
             Ok(words) => words,
-            Err(_) => return ExitCode::from(running::without_memory(rt.alloc(), &mut errors)),
+            Err(_) => return ExitCode::from(program::without_memory(rt.alloc(), &mut errors)),
         },
         Err(error) => {
             if let ErrorKind::OutOfMemory = error.kind() {
-                return ExitCode::from(running::without_memory(rt.alloc(), &mut errors));
+                return ExitCode::from(program::without_memory(rt.alloc(), &mut errors));
             }
             let _ = write_line(
                 &mut errors,

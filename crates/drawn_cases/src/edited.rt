@@ -3,7 +3,7 @@
 //! Each edit is drawn twice: from the replies before and after it, and on the text before it alone. The texts are the same, and each end of a live
 //! range is in its marker's gap.
 
-use crate::drawing::{draw, written};
+use crate::drawn_text::{draw, written};
 use crate::edits::{Edit, edited_text, in_order};
 use crate::replies::{Told, told_from};
 use crate::tokens::{Ends, Point, Side, Token, gap_of};

@@ -2,7 +2,7 @@
 #![tactic(auto)]
 
 #[cfg(test)]
-mod drawing;
+mod drawn_text;
 #[cfg(test)]
 mod edited;
 #[cfg(test)]

@@ -5,8 +5,8 @@ use Rattle.std.specs.declared.result.Result.TheVariants.{Ok, Err}
 use Rattle.std.proofs.lemmas.List.Elements.{All-push}
 use Rattle.dom_model.specs.Definitions.{among, HasNode, Range, IsRange}
 use Rattle.dom_model.proofs.PlainLists.Numbers.{same_or, same, apart}
-use Rattle.dom_observe.specs.{Held.NamesOnly, Watchers.Watchers}
-use Rattle.dom_observe.proofs.HeldNames.{held-after}
+use Rattle.dom_observe.specs.{ObservedNodes.NamesOnly, Watchers.Watchers}
+use Rattle.dom_observe.proofs.NamesHeldLemmas.{held-after}
 use Rattle.dom_ranges.specs.Tables.{RangeTable}
 use Rattle.dom_edit.specs.{declared.world.World.World, Whole.IsWhole}
 

@@ -2,7 +2,7 @@
 
 ghost use Rattle.dom_edit.specs.Whole.{IsWhole};
 
-use crate::building::{SMALL_WORLD, of_kind};
+use crate::small_world::{SMALL_WORLD, of_kind};
 use crate::facts::Fact;
 use crate::scenes::{Call, Change, Row, When, played};
 use dom_data::{remove_attribute, set_attribute, toggle_attribute};

@@ -5,7 +5,7 @@ ghost use Rattle.std.specs.Option.{IsSome};
 ghost use Rattle.dom_ranges.specs.Tables.{range_in};
 ghost use Rattle.dom_edit.specs.Whole.{IsWhole};
 
-use crate::building::SMALL_WORLD;
+use crate::small_world::SMALL_WORLD;
 use crate::facts::{Fact, NEW, OLDER, expect_units};
 use crate::scenes::{Ask, Call, New, Row, When, played};
 use dom_content::{clone_contents, delete_contents, extract, range_text};

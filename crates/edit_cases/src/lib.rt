@@ -4,9 +4,9 @@
 #[cfg(test)]
 mod attributes;
 #[cfg(test)]
-mod building;
+mod small_world;
 #[cfg(test)]
-mod cloning;
+mod clones;
 #[cfg(test)]
 mod contents;
 #[cfg(test)]
@@ -14,7 +14,7 @@ mod copies;
 #[cfg(test)]
 mod documents;
 #[cfg(test)]
-mod editing;
+mod tree_edits;
 #[cfg(test)]
 mod facts;
 #[cfg(test)]
@@ -24,4 +24,4 @@ mod texts;
 #[cfg(test)]
 mod worlds;
 #[cfg(test)]
-mod wrapping;
+mod range_insertion;

@@ -5,7 +5,7 @@ ghost use Rattle.dom_model.specs.Forests.Kinds.{is_character_data};
 ghost use Rattle.dom_model.specs.Forests.Nodes.{kind_passes};
 ghost use Rattle.dom_edit.specs.Whole.{IsWhole};
 
-use crate::building::{SMALL_WORLD, of_kind};
+use crate::small_world::{SMALL_WORLD, of_kind};
 use crate::facts::{Fact, NEW, expect_units, held};
 use crate::scenes::{Ask, Call, Change, New, Row, When, played};
 use dom_data::{

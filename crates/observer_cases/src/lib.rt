@@ -2,8 +2,8 @@
 #![tactic(auto)]
 
 #[cfg(test)]
-mod observing;
+mod registrations;
 #[cfg(test)]
 mod scenes;
 #[cfg(test)]
-mod watching;
+mod out_of_memory;

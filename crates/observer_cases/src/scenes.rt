@@ -4,9 +4,9 @@
 ghost use Rattle.std.specs.Option.{IsSome};
 ghost use Rattle.dom_observe.specs.Watchers.{queue_in};
 
-use crate::observing::nothing;
+use crate::registrations::nothing;
 use dom_kinds::{Kind, Label};
-use dom_observe::{Mutation, ObserverId, Observers, RawOptions, Record, RecordType, settle};
+use dom_observe::{Mutation, ObserverId, Observers, RawOptions, Record, RecordType, resolve_options};
 use dom_tree::{NodeId, Tree};
 use dom_units::Units;
 use std::alloc::{AllocError, Global};
@@ -159,7 +159,7 @@ fn watch(
     alloc: Global,
 ) -> Result<(), AllocError> {
     let observer = observer(rt, observers, number);
-    match settle(options(alloc, watched)?) {
+    match resolve_options(options(alloc, watched)?) {
         Ok(options) => observers.observe(observer, NodeId::new(node), options),
         Err(_) => {
             assert!(rt; false, "these options are in order");
@@ -204,7 +204,7 @@ fn change_data(
         name: None,
         old_value: Some(old_value.units()),
     };
-    observers.queue(tree, &mutation)
+    observers.queue_record(tree, &mutation)
 }
 
 // Changes an attribute of a node.
@@ -227,7 +227,7 @@ fn change_attribute(
         name: Some(name),
         old_value: None,
     };
-    observers.queue(tree, &mutation)
+    observers.queue_record(tree, &mutation)
 }
 
 // Removes node 1 from node 0.
@@ -255,7 +255,7 @@ fn tell_of_leaving(
         name: None,
         old_value: None,
     };
-    observers.queue(tree, &mutation)
+    observers.queue_record(tree, &mutation)
 }
 
 // Notifies the observers, and asserts how many get records.
@@ -279,7 +279,7 @@ fn take_pending(
 // Notifies an observer in its turn, and asserts how many records it gets.
 fn tell_in_turn(rt: &impl Abort, observers: &mut Observers, number: u32, count: usize) {
     let observer = observer(rt, observers, number);
-    assert_eq!(rt; observers.tell(observer).len(), count);
+    assert_eq!(rt; observers.notify_one(observer).len(), count);
 }
 
 // Disconnects an observer.

@@ -2,9 +2,9 @@
 #![tactic(auto)]
 
 #[cfg(test)]
-mod placing;
+mod adjustment;
 #[cfg(test)]
-mod playing;
+mod player;
 #[cfg(test)]
 mod ranges;
 #[cfg(test)]

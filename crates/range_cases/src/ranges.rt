@@ -1,6 +1,6 @@
 //! Live ranges over a small tree, step by step: made, read, set again, and released many times; and refused room.
-use super::placing::placed;
-use super::playing::expect;
+use super::adjustment::placed;
+use super::player::expect;
 use super::trees::{Grown, Place, Units, at, grow};
 use dom_kinds::Kind;
 use dom_point::Point;

@@ -1,5 +1,5 @@
 //! Static ranges over a small tree, step by step: made, read, looked up by node and released, and many that are made and released.
-use super::playing::expect;
+use super::player::expect;
 use super::trees::{Grown, Place, Units, at, grow};
 use dom_kinds::Kind;
 use dom_ranges::{StaticId, Statics};

@@ -1,5 +1,5 @@
 //! Attributes that are set, removed, compared as sets and copied, and twenty thousand of them. Each test is a list of rows.
-use super::playing::expect;
+use super::player::expect;
 use dom_attrs::Attrs;
 use dom_units::Units;
 use growth_marks::Act;

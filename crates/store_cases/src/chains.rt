@@ -1,6 +1,6 @@
 //! Items in buckets by key: items are found by key, get other keys, and are removed, so that the last gets the number of the removed one. Each test
 //! is a list of rows.
-use super::playing::expect;
+use super::player::expect;
 use dom_chains::{Chains, HeadsInList, HeadsInPages};
 use growth_marks::{Act, begins, ends};
 use std::alloc::{AllocError, Global};

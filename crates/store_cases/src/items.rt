@@ -1,7 +1,7 @@
 //! Items by number that are added and released: each has a slot, and the last item moves into the slot of a released one. Each test is a list of
 //! rows.
-use super::playing::expect;
-use dom_slots::Slotted;
+use super::player::expect;
+use dom_slots::NumberedItems;
 use growth_marks::{Act, begins, ends};
 use std::alloc::{AllocError, Global};
 use std::test::Fail;
@@ -30,7 +30,7 @@ enum Step {
 // The first turn, the turn after the last, and the step for each turn.
 type Row = (u32, u32, Step);
 
-fn reserve(items: &mut Slotted<u32>, additional: usize) -> Result<bool, AllocError> {
+fn reserve(items: &mut NumberedItems<u32>, additional: usize) -> Result<bool, AllocError> {
     if items.made() >= 1_000_000 || additional >= 1_000_000 {
         return Ok(false);
     }
@@ -39,7 +39,7 @@ fn reserve(items: &mut Slotted<u32>, additional: usize) -> Result<bool, AllocErr
 }
 
 // Adds an item with the next number. If memory is refused, nothing has changed, and it reserves the room again.
-fn make(items: &mut Slotted<u32>, item: u32) -> Result<bool, AllocError> {
+fn make(items: &mut NumberedItems<u32>, item: u32) -> Result<bool, AllocError> {
     let (made, count) = (items.made(), items.count());
     if made >= 1_000_000 {
         return Ok(false);
@@ -53,7 +53,7 @@ fn make(items: &mut Slotted<u32>, item: u32) -> Result<bool, AllocError> {
     Ok(items.push_reserved(item) == item && items.slot(item) == Some(count))
 }
 
-fn release(items: &mut Slotted<u32>, number: u32, due: usize) -> bool {
+fn release(items: &mut NumberedItems<u32>, number: u32, due: usize) -> bool {
     if items.slot(number).is_none() {
         return false;
     }
@@ -61,7 +61,7 @@ fn release(items: &mut Slotted<u32>, number: u32, due: usize) -> bool {
     slot == due && item == number && !items.holds(number)
 }
 
-fn put(items: &mut Slotted<u32>, slot: usize, item: u32) -> bool {
+fn put(items: &mut NumberedItems<u32>, slot: usize, item: u32) -> bool {
     if slot >= items.count() {
         return false;
     }
@@ -70,13 +70,13 @@ fn put(items: &mut Slotted<u32>, slot: usize, item: u32) -> bool {
 }
 
 impl Act for Step {
-    type Scene = Slotted<u32>;
+    type Scene = NumberedItems<u32>;
 
-    fn scene(alloc: Global) -> Slotted<u32> {
-        Slotted::new(alloc)
+    fn scene(alloc: Global) -> NumberedItems<u32> {
+        NumberedItems::new(alloc)
     }
 
-    fn act(&self, alloc: Global, items: &mut Slotted<u32>, turn: u32) -> Result<bool, AllocError> {
+    fn act(&self, alloc: Global, items: &mut NumberedItems<u32>, turn: u32) -> Result<bool, AllocError> {
         match self {
             Step::Room(additional) => reserve(items, *additional),
             Step::Make => make(items, turn),

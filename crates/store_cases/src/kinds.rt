@@ -1,5 +1,5 @@
 //! Names at the edges of the rules, node types, names and codes of exceptions, and a copied label.
-use super::playing::expect;
+use super::player::expect;
 use dom_kinds::{
     DomError, Exception, Kind, Label, NodeType, is_attribute_name, is_doctype_name, is_element_name,
 };

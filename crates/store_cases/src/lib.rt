@@ -15,8 +15,8 @@ mod links;
 #[cfg(test)]
 mod pages;
 #[cfg(test)]
-mod playing;
+mod player;
 #[cfg(test)]
-mod slotted;
+mod numbered_items;
 #[cfg(test)]
 mod units;

@@ -1,5 +1,5 @@
 //! Slots that are linked, unlinked, emptied and filled again, and the memory of their nodes. Each test is a list of rows.
-use super::playing::expect;
+use super::player::expect;
 use dom_links::{Links, Node, Slot};
 use growth_marks::{Act, begins, ends};
 use std::alloc::{AllocError, Global};

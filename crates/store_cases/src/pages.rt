@@ -1,5 +1,5 @@
 //! Paged tables: numbers over three pages, pages that free their memory, and room that is reserved at once. Each test is a list of rows.
-use super::playing::expect;
+use super::player::expect;
 use dom_pages::Pages;
 use growth_marks::{Act, begins, ends};
 use std::alloc::{AllocError, Global};

@@ -1,5 +1,5 @@
 //! Texts: pairs, lone surrogates and the empty text, and replaced parts. Each test is a list of rows.
-use super::playing::expect;
+use super::player::expect;
 use dom_units::Units;
 use growth_marks::Act;
 use std::alloc::{AllocError, Global};

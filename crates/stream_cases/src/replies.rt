@@ -4,7 +4,7 @@ use dom_attrs::Attrs;
 use dom_serve::write_reply;
 use dom_session::{
     Answer, Brief, Content, Description, DomError, Kind, Label, NodeId, ObserverId, OwnError,
-    Point, Record, RecordType, Reply, Told, TreeRow, Units,
+    Point, Record, RecordType, Reply, Notification, TreeRow, Units,
 };
 use std::alloc::{AllocError, Global};
 use std::cmp::Ordering;
@@ -254,10 +254,10 @@ fn two_records(alloc: Global) -> Result<Vec<Record>, Fail> {
 }
 
 // Returns the records of one observer.
-fn told(alloc: Global) -> Result<Vec<Told>, Fail> {
+fn told(alloc: Global) -> Result<Vec<Notification>, Fail> {
     let removal = removal(alloc)?;
     let records = vec![in alloc; removal]?;
-    let told = Told {
+    let told = Notification {
         observer: ObserverId::new(0),
         records,
     };

@@ -2,10 +2,10 @@
 
 ghost use Rattle.std.specs.Prelude.{◌≡◌, true, IsSome};
 ghost use Rattle.std.specs.Option.{ForSome};
-ghost use Rattle.dom_traverse.specs.Standing.{iterator_in, StandsInside};
+ghost use Rattle.dom_traverse.specs.Items.{iterator_in, StandsInside};
 
 use super::filters::{filter, root_of};
-use super::playing::expect;
+use super::player::expect;
 use super::tree::{Step as TreeStep, grow};
 use dom_traverse::{IteratorId, NodeIterators};
 use dom_tree::{NodeId, Tree};

@@ -8,7 +8,7 @@ mod filters;
 #[cfg(test)]
 mod iterators;
 #[cfg(test)]
-mod playing;
+mod player;
 #[cfg(test)]
 mod points;
 #[cfg(test)]

@@ -1,5 +1,5 @@
 //! Boundary points of small trees, by the rules, and of wide trees.
-use super::playing::expect;
+use super::player::expect;
 use super::tree::{Row, Step};
 use std::cmp::Ordering;
 use std::test::Fail;

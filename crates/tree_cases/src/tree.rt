@@ -2,7 +2,7 @@
 
 ghost use Rattle.dom_model.specs.Forests.Forest.{HasNode};
 
-use super::playing::expect;
+use super::player::expect;
 use dom_kinds::{Kind, Label};
 use dom_point::{Point, common, order};
 use dom_tree::{Children, NodeId, Tree};
@@ -125,11 +125,11 @@ fn number_children(tree: &mut Tree<u32>, parent: NodeId) -> bool {
     true
 }
 
-fn make_room(tree: &mut Tree<u32>, parent: NodeId) -> Result<bool, AllocError> {
+fn reserve_blocks(tree: &mut Tree<u32>, parent: NodeId) -> Result<bool, AllocError> {
     if !tree.holds(parent) {
         return Ok(false);
     }
-    tree.make_room_for(parent, 0)?;
+    tree.reserve_blocks_for(parent, 0)?;
     Ok(true)
 }
 
@@ -282,7 +282,7 @@ pub(crate) fn grow(
         Step::Cut => Ok(cut(tree, id)),
         Step::Free => Ok(free(tree, id)),
         Step::NumberChildren => Ok(number_children(tree, id)),
-        Step::MakeRoom => make_room(tree, id),
+        Step::MakeRoom => reserve_blocks(tree, id),
         Step::Found(index) => Ok(found(tree, id, *index)),
         Step::PutLeaf(parent, due) => Ok(tree.put_leaf(NodeId::new(*parent), id) == *due),
         Step::ComesBefore(other, due) => Ok(comes_before(tree, id, NodeId::new(*other), *due)),

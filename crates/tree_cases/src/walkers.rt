@@ -1,6 +1,6 @@
 //! Tree walkers over small trees, step by step, and walkers that are made and released, so that one moves into the slot of another.
 use super::filters::{filter, root_of};
-use super::playing::expect;
+use super::player::expect;
 use super::tree::{Step as TreeStep, grow};
 use dom_traverse::{Move, Verdict, WalkerId, Walkers};
 use dom_tree::{NodeId, Tree};

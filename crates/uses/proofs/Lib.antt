@@ -1,4 +1,4 @@
 pub mod NewChildren
 pub mod SetAttributes
 pub mod Paragraphs
-pub mod Removals
+pub mod RemovalLemmas

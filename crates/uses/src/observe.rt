@@ -48,6 +48,6 @@ pub fn tell_and_take<X>(
               (ancestors change.now.target tree.now.forest) x.registrations;
         }) x)) }
 {
-    observers.queue(tree, change)?;
+    observers.queue_record(tree, change)?;
     Ok(observers.take(observer))
 }

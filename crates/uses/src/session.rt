@@ -4,7 +4,7 @@ ghost use Rattle.std.specs.Prelude.{◌≡◌, IfOk};
 ghost use Rattle.dom_model.specs.Commands.Command.{SetData, GetData};
 ghost use Rattle.dom_model.specs.Commands.Reply as model;
 ghost use Rattle.dom_model.specs.Worlds.World.{World};
-ghost use Rattle.dom_session.specs.Stands.{StandsFor};
+ghost use Rattle.dom_session.specs.SessionViews.{StandsFor};
 ghost use Rattle.dom_session.specs.Views.{reply_view};
 ghost use Rattle.uses.specs.Turns.{AreAnswered};
 

@@ -1,7 +1,7 @@
 -- Notify, made of commands: what takes the pending observers, then for each of them, in order, what tells it; and then every transient registration that is
 -- left goes. DOM Standard, "notify mutation observers".
 use Rattle.std.proofs.Common.{◌≡◌, ℕ, true, List, [], ◌∷◌, map, refl, ap, sym, ◌∙◌, filter}
-use Rattle.dom_model.specs.Definitions.{among, World, Notify, TakePending, TellObserver, Reply, Done, Records, Notified, Told, has_observer, queue_of, pending_of, has_records, pending_taken, observer_told, told_in_turn, answers_in_turn, transients_ended, Bounds, Step, answers, with_observing, answer, world_past, replies_to}
+use Rattle.dom_model.specs.Definitions.{among, World, Notify, TakePending, TellObserver, Reply, Done, Records, Notified, Notification, has_observer, queue_of, pending_of, has_records, pending_taken, observer_told, told_in_turn, answers_in_turn, transients_ended, Bounds, Step, answers, with_observing, answer, world_past, replies_to}
 use Rattle.dom_model.proofs.MutationObservers.{Queues.among-later, Queues.there-taken, Queues.pending-there, InTurn.notify-in_turn, InTurn.told-in_turn}
 use Rattle.dom_model.proofs.PlainLists.Heads.{among-first}
 
@@ -23,7 +23,7 @@ module _ (b : Bounds) where
       ap (λ (s : Step). world_past b s.world (map TellObserver os)) (tells w o (h o (among-first o os)))
       ∙ told-world os (with_observing (observer_told o w.observing) w) (there_still o os w h)
 
-  pub told-replies : (os : List ℕ) (w : World) → AreThere os w → replies_to b w (map TellObserver os) ≡ map (λ (t : Told). Done (Records t.records)) (answers_in_turn os w.observing)
+  pub told-replies : (os : List ℕ) (w : World) → AreThere os w → replies_to b w (map TellObserver os) ≡ map (λ (t : Notification). Done (Records t.records)) (answers_in_turn os w.observing)
   told-replies [] w h = refl
   told-replies (o ∷ os) w h =
       ap (λ (s : Step). s.reply ∷ replies_to b s.world (map TellObserver os)) (tells w o (h o (among-first o os)))
@@ -42,5 +42,5 @@ module _ (b : Bounds) where
       ∙ ap (λ (v : World). answers (Notified (filter has_records (answers_in_turn (pending_of w.observing) (pending_taken w.observing)))) (with_observing (transients_ended v.observing) w))
       (sym (told-world (pending_of w.observing) (after_taking w) (λ o k. pending-there o w.observing k)))
 
-  pub tells-each : (w : World) → replies_to b (after_taking w) (map TellObserver (pending_of w.observing)) ≡ map (λ (t : Told). Done (Records t.records)) (answers_in_turn (pending_of w.observing) (after_taking w).observing)
+  pub tells-each : (w : World) → replies_to b (after_taking w) (map TellObserver (pending_of w.observing)) ≡ map (λ (t : Notification). Done (Records t.records)) (answers_in_turn (pending_of w.observing) (after_taking w).observing)
   tells-each w = told-replies (pending_of w.observing) (after_taking w) (λ o k. pending-there o w.observing k)

@@ -2,7 +2,7 @@
 use Rattle.std.proofs.Common.{arith, ◌≡◌, ℕ, zero, suc, ◌+◌, ◌<◌, ◌≤◌, ◌==◌, Bool, true, false, not, if◌then◌else◌, List, [], ◌∷◌, ◌++◌, map, length, drop, Some, None, refl, ap, sym, ◌∙◌, append-nil, length-append, ◌-◌, ◌⊎◌, inl, inr}
 use Rattle.std.specs.{Prelude.filter, Prelude.filter_map, Prelude.flat_map, Prelude.is_none, Prelude.is_some, Prelude.slice_index_or, List.list_any}
 use Rattle.std.proofs.lemmas.{Bool.cases_Bool, Bool.Decides.nat_tests, Bool.false≢true, Bool.cases_lt, List.map-append, List.length-map, List.length-set, List.get_or-set_same, List.get_or-set_other, List.get_or_append_left, List.get_or-append_right, List.Elements.filter-append}
-use Rattle.dom_model.specs.Definitions.{among, Options, Registration, Mutation, Observing, registered_on, standing_on, noted, transient_of, with_transients, Told, interests, interested, record_by, record_for, observers_of, each_once, taken_up_to, has_observer, queue_of, pending_of, told_in, has_records, told, after_notify, pending_taken, is_transient_of, observer_told, records_taken, disconnected, released_observer, is_registered, is_transient_from, new_registration, with_options, registered, observed, with_observer}
+use Rattle.dom_model.specs.Definitions.{among, Options, Registration, Mutation, Observing, registered_on, standing_on, noted, transient_of, with_transients, Notification, interests, interested, record_by, record_for, observers_of, each_once, taken_up_to, has_observer, queue_of, pending_of, told_in, has_records, notifications, after_notify, pending_taken, is_transient_of, observer_told, records_taken, disconnected, released_observer, is_registered, is_transient_from, new_registration, with_options, registered, observed, with_observer}
 use Rattle.dom_model.proofs.PlainLists.Numbers.{Same, same_or, same, apart}
 use Rattle.dom_model.proofs.MutationObservers.{NodeRegistrations.filter-twice, NodeRegistrations.filter-map_kept, NodeRegistrations.registered_on-filter, Queues.each_once-filter, Queues.place-released, Queues.place-released_other, Queues.place-notified, Queues.among-passing, Queues.length-moved}
 
@@ -81,11 +81,11 @@ module _ (erased : ℕ → Bool) where
 
   -- what notify tells the others is the same
 
-  told_in-left : (x y : Observing) → IsWithout x y → (os : List ℕ) → map (told_in y) (filter is_other os) ≡ filter (λ (t : Told). is_other t.observer) (map (told_in x) os)
+  told_in-left : (x y : Observing) → IsWithout x y → (os : List ℕ) → map (told_in y) (filter is_other os) ≡ filter (λ (t : Notification). is_other t.observer) (map (told_in x) os)
   told_in-left x y w [] = refl
   told_in-left x y w (o ∷ os) = grind (arith, cases_Bool (erased o), queue-left x y w o, told_in-left x y w os)
 
-  pub told-left : (x y : Observing) → IsWithout x y → told y ≡ filter (λ (t : Told). is_other t.observer) (told x)
+  pub told-left : (x y : Observing) → IsWithout x y → notifications y ≡ filter (λ (t : Notification). is_other t.observer) (notifications x)
   told-left x y w = grind (arith, pending-left x y w, told_in-left x y w (pending_of x), filter-twice has_records)
 
   -- Each step leaves the two as they were to one another.

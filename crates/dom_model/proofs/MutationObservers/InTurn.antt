@@ -2,7 +2,7 @@
 -- DOM Standard, "notify mutation observers".
 use Rattle.std.proofs.Common.{arith, ◌≡◌, ℕ, Bool, true, false, not, List, [], ◌∷◌, map, length, refl, ap, sym, filter, flat_map, drop, cond, is_none}
 use Rattle.std.specs.Prelude.{⊤}
-use Rattle.dom_model.specs.Definitions.{among, left_out, Registration, Observing, has_observer, queue_of, observers_of, each_once, pending_of, told_in, has_records, told, moved_to, after_notify, pending_taken, is_transient_of, observer_told, told_in_turn, answers_in_turn, transients_ended}
+use Rattle.dom_model.specs.Definitions.{among, left_out, Registration, Observing, has_observer, queue_of, observers_of, each_once, pending_of, told_in, has_records, notifications, moved_to, after_notify, pending_taken, is_transient_of, observer_told, told_in_turn, answers_in_turn, transients_ended}
 use Rattle.dom_model.proofs.PlainLists.Numbers.{Same, same_or, same, apart}
 use Rattle.dom_model.proofs.MutationObservers.Queues.{queue-kept}
 
@@ -66,6 +66,6 @@ answers-told x [] y a h = refl
 answers-told x (o ∷ os) y a h = grind (arith, answers-told x os (observer_told o y) a.1, queue-kept o)
 
 -- one that has no records gives no entry
-pub told-in_turn : (x : Observing) → told x ≡ filter has_records (answers_in_turn (pending_of x) (pending_taken x))
+pub told-in_turn : (x : Observing) → notifications x ≡ filter has_records (answers_in_turn (pending_of x) (pending_taken x))
 told-in_turn x =
     ap (filter has_records) (sym (answers-told x (pending_of x) (pending_taken x) (apart-filter (has_observer x) (each_once (flat_map observers_of (drop x.notified x.mutations))) (apart-each_once (flat_map observers_of (drop x.notified x.mutations)))) (λ o k. refl)))

@@ -3,7 +3,7 @@ use Rattle.std.proofs.Common.{◌≡◌, ℕ, zero, suc, ◌+◌, ◌-◌, ◌<�
 use Rattle.std.specs.{Prelude.filter, Prelude.filter_map, Prelude.flat_map, Prelude.is_some, Prelude.option_to_list, Prelude.slice_set, List.cons_option}
 use Rattle.std.proofs.lemmas.{Bool.Decides.nat_tests, List.drop-append-le, List.get_or-set_same, List.get_or-set_other, List.get_or_append_left, List.get_or-append_right, List.get_or_past, List.length-set, List.Elements.All-append, List.Elements.All-nil, List.Elements.All-weaker, List.Elements.filter-append, List.Elements.filter_map-append, Grind.flat_map-append, Bool.false≢true, Bool.cases_lt}
 use Rattle.std.proofs.Math.Seq.{drop-length, get_or-append_seam}
-use Rattle.dom_model.specs.Definitions.{among, left_out, Options, Mutation, Observing, noted, Record, Told, observed, record_for, taken_up_to, has_observer, records_past, queue_of, observers_of, each_once, pending_of, InterestedAreMade, with_observer, records_taken, disconnected, released_observer, told_in, has_records, told, moved_to, after_notify, pending_taken, observer_told, with_last, with_all_last}
+use Rattle.dom_model.specs.Definitions.{among, left_out, Options, Mutation, Observing, noted, Record, Notification, observed, record_for, taken_up_to, has_observer, records_past, queue_of, observers_of, each_once, pending_of, InterestedAreMade, with_observer, records_taken, disconnected, released_observer, told_in, has_records, notifications, moved_to, after_notify, pending_taken, observer_told, with_last, with_all_last}
 use Rattle.dom_model.proofs.PlainLists.{Numbers.Same, Numbers.same_or, Numbers.same, Numbers.apart}
 use Rattle.dom_model.proofs.MutationObservers.NodeRegistrations.{filter-twice}
 use Rattle.dom_model.proofs.Forests.Listed.{left_out-append}
@@ -147,13 +147,13 @@ pub pending-released : (o : ℕ) (x : Observing) → pending_of (released_observ
 pending-released o x = filter-released o x (each_once (flat_map observers_of (drop x.notified x.mutations)))
 
 -- notify tells the others the same
-pub told-released : (o : ℕ) (x : Observing) → told (released_observer o x) ≡ filter (λ (t : Told). not (t.observer == o)) (told x)
+pub told-released : (o : ℕ) (x : Observing) → notifications (released_observer o x) ≡ filter (λ (t : Notification). not (t.observer == o)) (notifications x)
 told-released o x =
     ap (λ os. filter has_records (map (told_in (released_observer o x)) os)) (pending-released o x)
     ∙ ap (filter has_records) (each (pending_of x))
-    ∙ filter-twice has_records (λ (t : Told). not (t.observer == o)) (map (told_in x) (pending_of x))
+    ∙ filter-twice has_records (λ (t : Notification). not (t.observer == o)) (map (told_in x) (pending_of x))
   where
-    each : (os : List ℕ) → map (told_in (released_observer o x)) (left_out o os) ≡ filter (λ (t : Told). not (t.observer == o)) (map (told_in x) os)
+    each : (os : List ℕ) → map (told_in (released_observer o x)) (left_out o os) ≡ filter (λ (t : Notification). not (t.observer == o)) (map (told_in x) os)
     each [] = refl
     each (p ∷ os) = grind (arith, nat_tests, queue-released_other o p x, each os)
 

@@ -6,7 +6,7 @@ use Rattle.dom_model.specs.Worlds.World.{Observing, World}
 use Rattle.dom_model.specs.MutationObservers.GivenOptions.{GivenOptions}
 use Rattle.dom_model.specs.Commands.Reply.{Number, Numbers, Records, Notified, Reply, Own}
 use Rattle.dom_model.specs.Commands.Guards.{Bounds, Step, guarded, checked, no_node, no_room, answers, does}
-use Rattle.dom_model.specs.MutationObservers.Records.{options_refusal, options_of, observed, has_observer, queue_of, pending_of, with_observer, records_taken, disconnected, released_observer, told, after_notify, pending_taken, observer_told}
+use Rattle.dom_model.specs.MutationObservers.Records.{options_refusal, options_of, observed, has_observer, queue_of, pending_of, with_observer, records_taken, disconnected, released_observer, notifications, after_notify, pending_taken, observer_told}
 
 abbrev pub observers_made : World → ℕ
 observers_made w = length w.observing.places
@@ -43,7 +43,7 @@ answer_take_records b o w =
     (answers (Records (queue_of o w.observing)) (with_observing (records_taken o w.observing) w))
 
 abbrev pub answer_notify : Bounds → World → Step
-answer_notify b w = answers (Notified (told w.observing)) (with_observing (after_notify w.observing) w)
+answer_notify b w = answers (Notified (notifications w.observing)) (with_observing (after_notify w.observing) w)
 
 -- the pending observers are taken (ours, the first step of notify): they are answered in order, and nobody is pending any more
 abbrev pub answer_take_pending : Bounds → World → Step

@@ -14,7 +14,7 @@ use Rattle.dom_model.specs.Forests.Texts.{text_of_units}
 use Rattle.dom_model.specs.Forests.Attributes.{Attribute}
 use Rattle.dom_model.specs.Worlds.World.{Content, Range}
 use Rattle.dom_model.specs.Commands.Reply.{Description, TreeRow, Answer, Nothing, Number, MaybeNumber, Numbers, Flag, Order, Units, MaybeUnits, Names, NodeAt, Rows, Ends, StaticEnds, IteratorAt, WalkerAt, Records, Notified, Reply, Done, Dom, Own}
-use Rattle.dom_model.specs.MutationObservers.Record.{Record, Told}
+use Rattle.dom_model.specs.MutationObservers.Record.{Record, Notification}
 
 abbrev pub number_json : ℕ → Data
 number_json n = number (unsigned n)
@@ -104,7 +104,7 @@ record_json r =
 abbrev pub records_json : List Record → Data
 records_json rs = list_json (map record_json rs)
 
-abbrev pub told_json : Told → Data
+abbrev pub told_json : Notification → Data
 told_json t = list_json (number_json t.observer ∷ records_json t.records ∷ [])
 
 abbrev pub ends_json : Range → List Data

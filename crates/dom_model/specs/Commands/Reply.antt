@@ -5,7 +5,7 @@ use Rattle.dom_model.specs.declared.DomError.{DomError}
 use Rattle.dom_model.specs.declared.OwnError.{OwnError}
 use Rattle.dom_model.specs.Forests.Kinds.{Label}
 use Rattle.dom_model.specs.Worlds.World.{Content, Range}
-use Rattle.dom_model.specs.MutationObservers.Record.{Record, Told}
+use Rattle.dom_model.specs.MutationObservers.Record.{Record, Notification}
 
 -- a node, where it stands; of a doctype the label's ids are told too
 pub record Description : Type 0 where
@@ -39,7 +39,7 @@ pub data Answer : Type 0 where
   IteratorAt : ℕ → ℕ → Bool → Answer
   WalkerAt : ℕ → ℕ → Answer
   Records : List Record → Answer
-  Notified : List Told → Answer
+  Notified : List Notification → Answer
 
 pub data Reply : Type 0 where
   Done : Answer → Reply

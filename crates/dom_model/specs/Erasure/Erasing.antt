@@ -5,7 +5,7 @@ use Rattle.std.specs.List.{list_any}
 use Rattle.dom_model.specs.Worlds.World.{World}
 use Rattle.dom_model.specs.Commands.Command.{Command, CreateRange, CloneRange, DescribeRange, SetStart, SetEnd, SetStartBefore, SetStartAfter, SetEndBefore, SetEndAfter, Collapse, SelectNode, SelectNodeContents, CompareBoundaryPoints, ComparePoint, IsPointInRange, IntersectsNode, CommonAncestor, RangeText, DeleteContents, ExtractContents, CloneContents, InsertNode, SurroundContents, ReleaseRange, CreateIterator, CreateWalker, DescribeIterator, NextNode, PreviousNode, DescribeWalker, SetCurrent, Walk, Observe, Disconnect, TakeRecords, Notify, Pending, CreateStaticRange, DescribeStaticRange, ReleaseIterator, ReleaseWalker, ReleaseStaticRange, ReleaseObserver, TakePending, TellObserver, Discard}
 use Rattle.dom_model.specs.Commands.Reply.{Answer, Numbers, Notified, Reply, Done, Dom, Own}
-use Rattle.dom_model.specs.MutationObservers.Record.{Told}
+use Rattle.dom_model.specs.MutationObservers.Record.{Notification}
 use Rattle.dom_model.specs.Commands.Guards.{Bounds}
 use Rattle.dom_model.specs.Commands.Answer.{answer}
 
@@ -46,7 +46,7 @@ is_by_observer erased (TellObserver o) = erased o
 is_by_observer erased _ = false
 
 abbrev pub parts_left : (ℕ → Bool) → Answer → Answer
-parts_left erased (Notified ts) = Notified (filter (λ (t : Told). not (erased t.observer)) ts)
+parts_left erased (Notified ts) = Notified (filter (λ (t : Notification). not (erased t.observer)) ts)
 parts_left erased (Numbers os) = Numbers (filter (λ o. not (erased o)) os)
 parts_left erased a = a
 

@@ -14,6 +14,6 @@ pub record Record : Type 0 where
   pub old_value : Option (List ℕ)
 
 -- an observer and the records that it is told
-pub record Told : Type 0 where
+pub record Notification : Type 0 where
   pub observer : ℕ
   pub records : List Record

@@ -12,7 +12,7 @@ use Rattle.dom_model.specs.declared.DomError.TheVariants.{TypeError}
 use Rattle.dom_model.specs.PlainLists.Lists.{is_number, left_out, first_refusal}
 use Rattle.dom_model.specs.Worlds.World.{Options, Registration, Mutation, Observing}
 use Rattle.dom_model.specs.MutationObservers.GivenOptions.{GivenOptions}
-use Rattle.dom_model.specs.MutationObservers.Record.{Record, Told}
+use Rattle.dom_model.specs.MutationObservers.Record.{Record, Notification}
 
 -- Options.
 
@@ -181,15 +181,15 @@ disconnected o x = record (records_taken o x) { registrations = filter (λ (r : 
 abbrev pub released_observer : ℕ → Observing → Observing
 released_observer o x = record (disconnected o x) { places = slice_set x.places o None }
 
-abbrev pub told_in : Observing → ℕ → Told
+abbrev pub told_in : Observing → ℕ → Notification
 told_in x o = record { observer = o; records = queue_of o x }
 
-abbrev pub has_records : Told → Bool
+abbrev pub has_records : Notification → Bool
 has_records t = not (length t.records == 0)
 
 -- what notify tells: the pending observers whose queues are not empty, in order
-abbrev pub told : Observing → List Told
-told x = filter has_records (map (told_in x) (pending_of x))
+abbrev pub notifications : Observing → List Notification
+notifications x = filter has_records (map (told_in x) (pending_of x))
 
 -- the places of some observers moved to one place
 abbrev pub moved_to : ℕ → List ℕ → List (Option ℕ) → List (Option ℕ)
@@ -224,7 +224,7 @@ told_in_turn [] x = x
 told_in_turn (o ∷ os) x = told_in_turn os (observer_told o x)
 
 -- what each of them is told
-abbrev pub answers_in_turn : List ℕ → Observing → List Told
+abbrev pub answers_in_turn : List ℕ → Observing → List Notification
 answers_in_turn [] x = []
 answers_in_turn (o ∷ os) x = told_in x o ∷ answers_in_turn os (observer_told o x)
 

@@ -1,5 +1,5 @@
 use Rattle.std.proofs.Common.{add-one, arith, sym, ◌∙◌}
-use Rattle.dom_attrs.proofs.InOrder.{take-next, take-whole}
+use Rattle.dom_attrs.proofs.TakeLemmas.{take-next, take-whole}
 use Rattle.dom_attrs.proofs.Attrs.is_in_order_of.Goals as goal
 
 pub loop-index-preserved : goal.loop-index-preserved

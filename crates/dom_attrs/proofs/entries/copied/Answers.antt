@@ -1,8 +1,8 @@
 use Rattle.std.proofs.Common.{◌∙◌, ap}
-use Rattle.dom_attrs.specs.Entries.{attributes_of}
+use Rattle.dom_attrs.specs.Entries.{entry_attributes}
 use Rattle.dom_attrs.proofs.EntriesLemmas.{attributes_of-clones}
 use Rattle.dom_attrs.proofs.entries.copied.Goals as goal
 
 pub returns-clause-same : goal.returns-clause-same
 returns-clause-same c =
-    ap (λ copy. attributes_of copy.entries) c.in_ok-new.ensures.ok ∙ attributes_of-clones c.args.map.now.entries c.in_ok-copy.copy.entries c.in_ok-copy.ensures.cases
+    ap (λ copy. entry_attributes copy.entries) c.in_ok-new.ensures.ok ∙ attributes_of-clones c.args.map.now.entries c.in_ok-copy.copy.entries c.in_ok-copy.ensures.cases

@@ -1,5 +1,5 @@
 use Rattle.std.proofs.Common.{◌∙◌, ap}
-use Rattle.dom_attrs.specs.Entries.{attributes_of}
+use Rattle.dom_attrs.specs.Entries.{entry_attributes}
 use Rattle.dom_attrs.proofs.EntriesLemmas.{lookup-attributes_of, attributes_of-remove_entry}
 use Rattle.dom_attrs.proofs.entries.take_from.Goals as goal
 
@@ -9,4 +9,4 @@ returns-clause-value c =
 
 pub returns-clause-rest : goal.returns-clause-rest
 returns-clause-rest c =
-    ap attributes_of (c.give_back.ensures.same ∙ c.shift_remove-value.ensures.entries) ∙ attributes_of-remove_entry c.args.name.now c.args.map.now.entries
+    ap entry_attributes (c.give_back.ensures.same ∙ c.shift_remove-value.ensures.entries) ∙ attributes_of-remove_entry c.args.name.now c.args.map.now.entries

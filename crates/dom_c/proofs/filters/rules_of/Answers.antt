@@ -1,6 +1,6 @@
 use Rattle.std.proofs.Common.{◌∙◌, arith}
 use Rattle.std.proofs.lemmas.Grind.{common_steps}
-use Rattle.dom_c.proofs.TooFew.{too_few}
+use Rattle.dom_c.proofs.RulesFromLemmas.{too_few}
 use Rattle.dom_c.proofs.filters.rules_of.Goals as goal
 
 pub returns-in_default : goal.returns-in_default

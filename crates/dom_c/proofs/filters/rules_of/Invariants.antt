@@ -1,5 +1,5 @@
 use Rattle.std.proofs.Common.{◌≡◌, [], drop}
-use Rattle.dom_c.specs.Lists.{rules_from}
+use Rattle.dom_c.specs.NameLists.{rules_from}
 use Rattle.dom_c.proofs.filters.rules_of.Given as goal
 
 -- what is left is read onto what was read

@@ -1,5 +1,5 @@
 use Rattle.std.proofs.Common.{◌≡◌, [], drop, map, string_bytes}
-use Rattle.dom_c.specs.Lists.{names_from}
+use Rattle.dom_c.specs.NameLists.{names_from}
 use Rattle.dom_c.proofs.options.names_of.Given as goal
 
 -- what is left is read onto what was read

@@ -1,5 +1,5 @@
 use Rattle.std.proofs.Common.{sym, ◌∙◌, is_some}
-use Rattle.dom_clone.proofs.Walks.{other_way, walk-starts, walked-held, walked-under, nodes_differ, walk-goes_on, walk-ends, walk-differs, walk-shorter}
+use Rattle.dom_clone.proofs.EqualWalkLemmas.{other_way, walk-starts, walked-held, walked-under, nodes_differ, walk-goes_on, walk-ends, walk-differs, walk-shorter}
 use Rattle.dom_clone.proofs.equality.is_equal.Goals as goal
 
 pub loop-node-init : goal.loop-node-init

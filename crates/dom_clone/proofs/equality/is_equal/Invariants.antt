@@ -1,6 +1,6 @@
 use Rattle.std.proofs.Common.{length}
 use Rattle.dom_model.specs.Definitions.{inclusive_descendants, from_first}
-use Rattle.dom_clone.proofs.Walks.{AreWalking}
+use Rattle.dom_clone.proofs.EqualWalkLemmas.{AreWalking}
 use Rattle.dom_clone.proofs.equality.is_equal.Given as goal
 
 abbrev pub invariant-loop-node : goal.invariant-loop-node

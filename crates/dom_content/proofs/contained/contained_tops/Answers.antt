@@ -1,7 +1,7 @@
 -- What stands behind the first path, between the two, and ahead of the second.
 use Rattle.std.proofs.Common.{ℕ, List, ◌++◌, ap, sym, ◌∙◌, subst}
 use Rattle.dom_model.specs.Definitions.{Point, Range, tail_nodes, head_nodes}
-use Rattle.dom_edit.specs.{Inserting.AreThere, Whole.unwatched}
+use Rattle.dom_edit.specs.{Insertion.AreThere, Whole.unwatched}
 use Rattle.dom_content.proofs.{DrawnContents.first-held, DrawnContents.last-held, TopsOfPaths.tops-of_parts}
 use Rattle.dom_content.proofs.contained.contained_tops.Goals as goal
 

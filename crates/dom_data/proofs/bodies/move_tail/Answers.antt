@@ -3,7 +3,7 @@ use Rattle.std.proofs.Common.{refl, ap, ◌∙◌}
 use Rattle.dom_model.specs.Definitions.{Content, with_node}
 use Rattle.dom_model.proofs.Worlds.SameShape.{with_node-alike}
 use Rattle.dom_model.proofs.RangesAndContents.RangesSpliced.{there-alike}
-use Rattle.dom_data.proofs.{ChangedBodies.body-written, MovedTail.tail-moved, Outcomes.on_err}
+use Rattle.dom_data.proofs.{ChangedBodies.body-written, MovedTail.tail-moved, ResultLemmas.on_err}
 use Rattle.dom_data.proofs.bodies.move_tail.Goals as goal
 
 pub returns-in_err-tail-clause-err : goal.returns-in_err-tail-clause-err

@@ -1,7 +1,7 @@
 -- An attribute set in the place where the tree keeps it.
 use Rattle.std.proofs.Common.{ap, ◌∙◌, string_bytes}
 use Rattle.dom_model.specs.Definitions.{with_attribute, with_node, Content, with_attributes}
-use Rattle.dom_data.proofs.{ChangedBodies.attributes-written, ChangedBodies.body-written, ChangedBodies.content-read, Outcomes.on_err}
+use Rattle.dom_data.proofs.{ChangedBodies.attributes-written, ChangedBodies.body-written, ChangedBodies.content-read, ResultLemmas.on_err}
 use Rattle.dom_data.proofs.bodies.set_in.Goals as goal
 
 pub returns-in_err-set_attribute-clause-err : goal.returns-in_err-set_attribute-clause-err

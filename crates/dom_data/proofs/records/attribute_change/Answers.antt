@@ -2,7 +2,7 @@
 use Rattle.std.proofs.Common.{Some, sym, ap, ◌∙◌}
 use Rattle.dom_model.specs.declared.RecordType.TheVariants.{Attributes}
 use Rattle.dom_data.specs.Changes.{change_of}
-use Rattle.dom_data.proofs.Told.{lent-text}
+use Rattle.dom_data.proofs.QueuesMutationLemmas.{lent-text}
 use Rattle.dom_data.proofs.records.attribute_change.Goals as goal
 
 pub returns : goal.returns

@@ -1,6 +1,6 @@
 use Rattle.std.proofs.Common.{Some, None, sym, ◌∙◌}
-use Rattle.dom_links.specs.Wiring.{with_previous}
-use Rattle.dom_links.proofs.{Cells.same_ptr_refl, Cells.put_length, Places.look-step}
+use Rattle.dom_links.specs.LinkSteps.{with_previous}
+use Rattle.dom_links.proofs.{CellsLemmas.same_ptr_refl, CellsLemmas.put_length, PoolStepLemmas.look-step}
 use Rattle.dom_links.proofs.steps.lead_back.Goals as goal
 
 pub returns-in-Some-clause-nodes : goal.returns-in-Some-clause-nodes

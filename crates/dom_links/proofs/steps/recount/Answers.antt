@@ -1,5 +1,5 @@
-use Rattle.dom_links.specs.Wiring.{recounted}
-use Rattle.dom_links.proofs.{Cells.same_ptr_refl, Cells.put_length, Places.look-step}
+use Rattle.dom_links.specs.LinkSteps.{recounted}
+use Rattle.dom_links.proofs.{CellsLemmas.same_ptr_refl, CellsLemmas.put_length, PoolStepLemmas.look-step}
 use Rattle.dom_links.proofs.steps.recount.Goals as goal
 
 pub returns-clause-nodes : goal.returns-clause-nodes

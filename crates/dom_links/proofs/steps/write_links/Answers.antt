@@ -1,5 +1,5 @@
-use Rattle.dom_links.specs.Wiring.{with_links}
-use Rattle.dom_links.proofs.{Cells.same_ptr_refl, Cells.put_length, Places.look-step}
+use Rattle.dom_links.specs.LinkSteps.{with_links}
+use Rattle.dom_links.proofs.{CellsLemmas.same_ptr_refl, CellsLemmas.put_length, PoolStepLemmas.look-step}
 use Rattle.dom_links.proofs.steps.write_links.Goals as goal
 
 pub returns-clause-nodes : goal.returns-clause-nodes

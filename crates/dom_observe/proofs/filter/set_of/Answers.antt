@@ -2,7 +2,7 @@
 use Rattle.std.proofs.Common.{◌≡◌, ◌||◌, map, string_bytes, ap, sym, ◌∙◌, arith, slice_index_or, bytes_eq}
 use Rattle.std.specs.List.{list_any}
 use Rattle.std.proofs.lemmas.List.{take_all}
-use Rattle.dom_observe.proofs.Sifting.{named_so, sift-inserted, sift-next}
+use Rattle.dom_observe.proofs.FilterSetLemmas.{named_so, sift-inserted, sift-next}
 use Rattle.dom_observe.proofs.filter.set_of.Goals as goal
 
 pub loop-name-init : goal.loop-name-init

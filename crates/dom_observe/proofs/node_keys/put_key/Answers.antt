@@ -4,7 +4,7 @@ use Rattle.std.proofs.lemmas.Result.{err_from_is_err_and}
 use Rattle.std.specs.Map.{lookup}
 use Rattle.indexmap.specs.IndexMap.{insert_entry}
 use Rattle.dom_observe.specs.{Watchers.on, Registrations.listed, Registrations.HaveKeys}
-use Rattle.dom_observe.proofs.Keys.{listed-set_value, on-set_value, on-insert_entry, looked-set, looked-insert, full-changed, some_key}
+use Rattle.dom_observe.proofs.KeysLemmas.{listed-set_value, on-set_value, on-insert_entry, looked-set, looked-insert, full-changed, some_key}
 use Rattle.dom_observe.proofs.node_keys.put_key.Goals as goal
 
 pub returns-in_err-push-in-Some-clause-err : goal.returns-in_err-push-in-Some-clause-err

@@ -1,6 +1,6 @@
 use Rattle.std.proofs.Common.{ap, ◌∙◌}
 use Rattle.dom_model.specs.Definitions.{among}
-use Rattle.dom_observe.proofs.Hearing.{among-list_any}
+use Rattle.dom_observe.proofs.InterestedLemmas.{among-list_any}
 use Rattle.dom_observe.proofs.queue.is_named.Goals as goal
 
 pub returns : goal.returns

@@ -1,8 +1,8 @@
 -- The walk tells, or each node of the set.
 use Rattle.std.proofs.Common.{rules, of_calls}
 use Rattle.dom_model.specs.Definitions.{among}
-use Rattle.dom_tree.proofs.Asking.{asked-found}
-use Rattle.dom_observe.proofs.Outcomes.{by_either}
+use Rattle.dom_tree.proofs.FirstFoundLemmas.{asked-found}
+use Rattle.dom_observe.proofs.ResultLemmas.{by_either}
 use Rattle.dom_observe.proofs.queue.is_named_inside.Goals as goal
 
 pub returns : goal.returns

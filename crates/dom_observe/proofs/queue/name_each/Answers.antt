@@ -1,7 +1,7 @@
 -- The nodes of one record more are named.
 use Rattle.std.proofs.Common.{◌≡◌, suc, ◌+◌, ◌∷◌, drop, ap, sym, ◌∙◌, nat_eq, arith, drop-cons, add-one}
 use Rattle.indexmap.specs.IndexSet.{contains}
-use Rattle.dom_observe.proofs.NamedRecords.{named-next, length-next}
+use Rattle.dom_observe.proofs.NamesNodesLemmas.{named-next, length-next}
 use Rattle.dom_observe.proofs.queue.name_each.Goals as goal
 
 pub loop-told-preserved : goal.loop-told-preserved

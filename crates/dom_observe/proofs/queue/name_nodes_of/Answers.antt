@@ -2,7 +2,7 @@
 use Rattle.std.proofs.Common.{◌||◌, nat_eq, ap, ◌∙◌}
 use Rattle.indexmap.specs.IndexSet.{contains}
 use Rattle.dom_model.specs.Definitions.{among, Record, if_any, nodes_of_record}
-use Rattle.dom_observe.proofs.NamedRecords.{name-parts}
+use Rattle.dom_observe.proofs.NamesNodesLemmas.{name-parts}
 use Rattle.dom_observe.proofs.queue.name_nodes_of.Goals as goal
 
 pub returns-clause-named : goal.returns-clause-named

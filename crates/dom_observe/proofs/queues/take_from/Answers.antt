@@ -1,7 +1,7 @@
 -- One queue is emptied, and the keys stay.
 use Rattle.std.proofs.Common.{[], Some, refl, ap, sym, ◌∙◌, slice_set, unwrap_or}
 use Rattle.dom_observe.specs.Roster.{queues_by}
-use Rattle.dom_observe.proofs.Rosters.{has-kept, queue-there, keys-same, queues-set}
+use Rattle.dom_observe.proofs.RosterLemmas.{has-kept, queue-there, keys-same, queues-set}
 use Rattle.dom_observe.proofs.queues.take_from.Goals as goal
 
 pub get_mut-kept-requires : goal.get_mut-kept-requires
@@ -9,7 +9,7 @@ get_mut-kept-requires c = sym (has-kept c.args.roster.now c.args.observer) ∙ c
 
 pub returns-clause-records : goal.returns-clause-records
 returns-clause-records c =
-    c.take.ensures.records ∙ sym (ap (λ q. unwrap_or q []) (queue-there c.args.roster.now c.args.observer c.get_mut-kept.result.now c.get_mut-kept.ensures.value))
+    c.take.ensures.records ∙ sym (ap (λ q. unwrap_or q []) (queue_record-there c.args.roster.now c.args.observer c.get_mut-kept.result.now c.get_mut-kept.ensures.value))
 
 pub returns-clause-emptied : goal.returns-clause-emptied
 returns-clause-emptied c =

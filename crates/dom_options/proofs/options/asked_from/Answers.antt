@@ -2,7 +2,7 @@ use Rattle.std.proofs.Common.{ap, refl, sym, subst, ◌≡◌, ◌∙◌, map, t
 use Rattle.clap.specs.Words.{App, HasKind, Kinds, app_of, fault_of, is_simple, is_simple_and_free, matches_of}
 use Rattle.clap.proofs.OnLiterals.{clap_on_literals}
 use Rattle.dom_options.specs.CommandLine.{bounds_asked, bounds_at, faults_in, program_app}
-use Rattle.dom_options.proofs.Told.{told}
+use Rattle.dom_options.proofs.IsRefusalOfLemmas.{told}
 use Rattle.dom_options.proofs.options.asked_from.Goals as goal
 
 program_is_simple : is_simple program_app ≡ true

@@ -4,7 +4,7 @@ use Rattle.std.specs.{declared.num.ParseIntError.ParseIntError, Str.Parse.Parses
 use Rattle.clap.proofs.WalkLemmas.{one_text-rows}
 use Rattle.dom_model.specs.Definitions.{Bounds}
 use Rattle.dom_options.specs.CommandLine.{limit_of}
-use Rattle.dom_options.proofs.Reading.{limit_read}
+use Rattle.dom_options.proofs.LimitReadLemmas.{limit_read}
 use Rattle.dom_options.proofs.options.asked_of.Goals as goal
 
 bounds_from : (n n' l l' : ℕ) → n ≡ n' → l ≡ l' → (let b : Bounds = record { numbers = n; line = l } in b) ≡ record { numbers = n'; line = l' }

@@ -1,5 +1,5 @@
 -- What the ways meet in.
-use Rattle.dom_point.proofs.Ways.{ways-common}
+use Rattle.dom_point.proofs.MeetingLemmas.{ways-common}
 use Rattle.dom_point.proofs.ancestors.common.Goals as goal
 
 pub returns : goal.returns

@@ -1,4 +1,4 @@
-use Rattle.dom_ranges.proofs.Marking.{moves-insertion}
+use Rattle.dom_ranges.proofs.MoveAsMarkersLemmas.{moves-insertion}
 use Rattle.dom_ranges.proofs.laws.ends_move_as_markers_where_nodes_come_in.Goals as goal
 
 pub returns : goal.returns

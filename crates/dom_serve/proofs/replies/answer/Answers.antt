@@ -1,6 +1,6 @@
 use Rattle.std.proofs.Common.{subst, sym}
 use Rattle.dom_serve.specs.ByLine.{IsLine, PassesLine, CutsLine}
-use Rattle.dom_serve.proofs.Calls.{IsCalled-one, IsCalled-failed}
+use Rattle.dom_serve.proofs.IsCalledLemmas.{IsCalled-one, IsCalled-failed}
 use Rattle.dom_serve.proofs.replies.answer.Goals as goal
 
 pub returns-in-Ok-write_line-clause-by_line : goal.returns-in-Ok-write_line-clause-by_line

@@ -1,5 +1,5 @@
 use Rattle.std.proofs.Common.{tests, rules}
-use Rattle.dom_serve.proofs.ByLine.{line-if}
+use Rattle.dom_serve.proofs.ByLineLemmas.{line-if}
 use Rattle.dom_serve.proofs.replies.reply_text.Goals as goal
 
 pub returns-in-Ok-clause-prints : goal.returns-in-Ok-clause-prints

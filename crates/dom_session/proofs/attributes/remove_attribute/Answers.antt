@@ -2,7 +2,7 @@ use Rattle.std.proofs.Common.{refl, sym, []}
 use Rattle.dom_model.specs.Definitions.{remove_attribute, RemoveAttribute, is_kind, does}
 use Rattle.dom_model.specs.declared.Kind.TheVariants.{Element}
 use Rattle.dom_session.specs.{declared.brief.Brief.TheVariants.Nothing, declared.reply.Reply.TheVariants.Brief}
-use Rattle.dom_session.proofs.{Stepping.step-follows, NodeData.answer-remove_attribute, OtherKinds.step-other_kind}
+use Rattle.dom_session.proofs.{GuardedLemmas.step-follows, NodeData.answer-remove_attribute, OtherKinds.step-other_kind}
 use Rattle.dom_session.proofs.attributes.remove_attribute.Goals as goal
 
 pub returns : goal.returns

@@ -2,7 +2,7 @@ use Rattle.std.proofs.Common.{◌≡◌, true, refl, sym, string_bytes, [], ◌�
 use Rattle.dom_model.specs.Definitions.{is_attribute_name, set_attribute, SetAttribute, is_kind, bad_name, does}
 use Rattle.dom_model.specs.declared.Kind.TheVariants.{Element}
 use Rattle.dom_session.specs.{declared.brief.Brief.TheVariants.Nothing, declared.reply.Reply.TheVariants.Brief}
-use Rattle.dom_session.proofs.{Stepping.step-follows, NodeData.answer-set_attribute, OtherKinds.step-other_kind}
+use Rattle.dom_session.proofs.{GuardedLemmas.step-follows, NodeData.answer-set_attribute, OtherKinds.step-other_kind}
 use Rattle.dom_session.proofs.attributes.set_attribute.Goals as goal
 
 pub returns : goal.returns

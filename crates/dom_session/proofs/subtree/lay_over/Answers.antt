@@ -2,7 +2,7 @@
 use Rattle.std.proofs.Common.{arith, ◌≡◌, ◌+◌, ◌<◌, length, slice_set, Option, Some, None, IfSome, ap, sym, subst, ◌∙◌}
 use Rattle.dom_model.specs.Definitions.{after, Forest, Grove, entry_in, inclusive_descendants}
 use Rattle.dom_tree.specs.Spots.{node_at}
-use Rattle.dom_traverse.proofs.Spots.{told}
+use Rattle.dom_traverse.proofs.SpotLemmas.{told}
 use Rattle.dom_session.specs.Subtree.{node_of, part_of, subtree_from}
 use Rattle.dom_session.proofs.Subtrees.{IsCopying, copying-first, copying-next, copied-part, copied-all, full-part, full-copied, part}
 use Rattle.dom_session.proofs.subtree.lay_over.Goals as goal

@@ -3,7 +3,7 @@ use Rattle.std.proofs.Common.{◌≡◌, if◌then◌else◌, Some, ap, sym, ◌
 use Rattle.dom_model.specs.Definitions.{among, after, Grove, ancestors, inclusive_descendants, accepts}
 use Rattle.dom_model.proofs.Traversal.IteratorSteps.{following_found, following-inside, following-fewer, following-end, following-on}
 use Rattle.dom_tree.specs.Spots.{node_at}
-use Rattle.dom_traverse.proofs.Spots.{told}
+use Rattle.dom_traverse.proofs.SpotLemmas.{told}
 use Rattle.dom_traverse.proofs.iterator.next_accepted.Goals as goal
 
 pub at-here-requires : goal.at-here-requires

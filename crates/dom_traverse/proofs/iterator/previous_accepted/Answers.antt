@@ -3,7 +3,7 @@ use Rattle.std.proofs.Common.{◌≡◌, if◌then◌else◌, Some, ap, sym, ◌
 use Rattle.dom_model.specs.Definitions.{among, before, Grove, ancestors, inclusive_descendants, accepts}
 use Rattle.dom_model.proofs.Traversal.IteratorSteps.{preceding_found, preceding-inside, preceding-fewer, preceding-end, preceding-on}
 use Rattle.dom_tree.specs.Spots.{node_at}
-use Rattle.dom_traverse.proofs.Spots.{told}
+use Rattle.dom_traverse.proofs.SpotLemmas.{told}
 use Rattle.dom_traverse.proofs.iterator.previous_accepted.Goals as goal
 
 pub at-here-requires : goal.at-here-requires

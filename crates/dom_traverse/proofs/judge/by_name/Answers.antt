@@ -3,8 +3,8 @@ use Rattle.std.proofs.Common.{◌≡◌, ℕ, ◌+◌, false, List, drop, sym, a
 use Rattle.std.proofs.lemmas.List.{at_drop_all}
 use Rattle.dom_model.specs.declared.Verdict.{Verdict}
 use Rattle.dom_model.specs.Definitions.{FilterRule, ruled}
-use Rattle.dom_traverse.specs.Judging.{known_or}
-use Rattle.dom_traverse.proofs.JudgingRules.{rule-passed}
+use Rattle.dom_traverse.specs.FilterRules.{known_or}
+use Rattle.dom_traverse.proofs.FilterRuleLemmas.{rule-passed}
 use Rattle.dom_traverse.proofs.judge.by_name.Goals as goal
 
 pub loop-rule-preserved : goal.loop-rule-preserved

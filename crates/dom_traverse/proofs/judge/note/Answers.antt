@@ -3,7 +3,7 @@ use Rattle.std.proofs.Common.{ℕ, List, sym, ap, ◌∙◌, string_bytes, is_so
 use Rattle.std.specs.BTreeMap.{get_by_text}
 use Rattle.std.proofs.lemmas.Map.Text.{btree_map_updates_text}
 use Rattle.dom_model.specs.Definitions.{FilterRule}
-use Rattle.dom_traverse.proofs.JudgingRules.{known-before, known-after}
+use Rattle.dom_traverse.proofs.FilterRuleLemmas.{known-before, known-after}
 use Rattle.dom_traverse.proofs.judge.note.Goals as goal
 
 pub returns-then-contains_key : goal.returns-then-contains_key

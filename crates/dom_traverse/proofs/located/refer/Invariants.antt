@@ -2,7 +2,7 @@
 use Rattle.std.proofs.Common.{◌≡◌, drop}
 use Rattle.std.specs.List.{list_any, flat_map}
 use Rattle.dom_model.specs.Definitions.{among, inclusive_descendants}
-use Rattle.dom_traverse.specs.Naming.{named_by}
+use Rattle.dom_traverse.specs.NamedNodes.{named_by}
 use Rattle.dom_traverse.proofs.located.refer.Given as goal
 
 abbrev pub invariant-loop-item : goal.invariant-loop-item

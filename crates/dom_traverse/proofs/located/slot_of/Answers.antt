@@ -1,6 +1,6 @@
 -- What lies in the slot of the number, and what is written there.
 use Rattle.std.proofs.Common.{sym, ◌∙◌}
-use Rattle.dom_slots.proofs.Entries.{by_slot-set}
+use Rattle.dom_slots.proofs.SlotEntryLemmas.{by_slot-set}
 use Rattle.dom_traverse.proofs.located.slot_of.Goals as goal
 
 pub returns-clause-written : goal.returns-clause-written

@@ -1,6 +1,6 @@
 -- The counts ahead are added up.
 use Rattle.std.proofs.Common.{sym, ◌∙◌, ap, arith, ◌+◌, slice_index_or}
-use Rattle.dom_tree.proofs.InBlocks.{ahead-grows, ahead-step}
+use Rattle.dom_tree.proofs.BlockCountLemmas.{ahead-grows, ahead-step}
 use Rattle.dom_tree.proofs.block_counts.add_up.Goals as goal
 
 pub overflow_add-sum : goal.overflow_add-sum

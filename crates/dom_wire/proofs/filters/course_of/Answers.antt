@@ -1,6 +1,6 @@
 use Rattle.std.proofs.Common.{sym}
 use Rattle.dom_model.specs.Definitions.{move_names}
-use Rattle.dom_wire.proofs.Steps.{named_in-none}
+use Rattle.dom_wire.proofs.ReadStepLemmas.{named_in-none}
 use Rattle.dom_wire.proofs.filters.course_of.Goals as goal
 
 pub returns-in_default : goal.returns-in_default

@@ -1,7 +1,7 @@
 use Rattle.std.proofs.Common.{◌≡◌, true, None, sym, is_some}
 use Rattle.serde_json.specs.{Find.as_object, View.view}
 use Rattle.dom_model.specs.Definitions.{options_in}
-use Rattle.dom_wire.proofs.Steps.{options-read, options-none}
+use Rattle.dom_wire.proofs.ReadStepLemmas.{options-read, options-none}
 use Rattle.dom_wire.proofs.options.options_with.Goals as goal
 
 pub returns-in_err-flag_member-6 : goal.returns-in_err-flag_member-6

@@ -1,7 +1,7 @@
 use Rattle.std.proofs.Common.{arith}
 use Rattle.std.proofs.lemmas.Grind.{common_steps}
 use Rattle.dom_model.specs.Definitions.{record_json}
-use Rattle.dom_wire.proofs.Steps.{list_closed}
+use Rattle.dom_wire.proofs.ReadStepLemmas.{list_closed}
 use Rattle.dom_wire.proofs.records.write_records.Goals as goal
 
 pub returns : goal.returns

@@ -1,6 +1,6 @@
 use Rattle.std.proofs.Common.{◌∙◌, arith}
 use Rattle.dom_model.specs.Definitions.{attribute_json}
-use Rattle.dom_wire.proofs.Steps.{list_closed, list_grown}
+use Rattle.dom_wire.proofs.ReadStepLemmas.{list_closed, list_grown}
 use Rattle.dom_wire.proofs.rows.write_attributes.Goals as goal
 
 pub loop-index-preserved : goal.loop-index-preserved

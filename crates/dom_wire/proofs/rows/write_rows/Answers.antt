@@ -1,5 +1,5 @@
 use Rattle.dom_model.specs.Definitions.{row_json}
-use Rattle.dom_wire.proofs.Steps.{list_closed}
+use Rattle.dom_wire.proofs.ReadStepLemmas.{list_closed}
 use Rattle.dom_wire.proofs.rows.write_rows.Goals as goal
 
 pub returns : goal.returns

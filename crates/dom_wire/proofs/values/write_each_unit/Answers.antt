@@ -1,5 +1,5 @@
 use Rattle.dom_model.specs.Definitions.{number_json}
-use Rattle.dom_wire.proofs.Steps.{list_closed}
+use Rattle.dom_wire.proofs.ReadStepLemmas.{list_closed}
 use Rattle.dom_wire.proofs.values.write_each_unit.Goals as goal
 
 pub returns : goal.returns

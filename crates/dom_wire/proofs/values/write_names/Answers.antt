@@ -1,6 +1,6 @@
 use Rattle.std.proofs.Common.{string_bytes}
 use Rattle.serde_json.specs.Data.{string}
-use Rattle.dom_wire.proofs.Steps.{list_closed, map-twice}
+use Rattle.dom_wire.proofs.ReadStepLemmas.{list_closed, map-twice}
 use Rattle.dom_wire.proofs.values.write_names.Goals as goal
 
 pub returns : goal.returns

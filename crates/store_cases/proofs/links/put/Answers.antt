@@ -1,6 +1,6 @@
 use Rattle.std.proofs.Common.{◌≡◌, length, arith}
 use Rattle.dom_model.specs.Definitions.{entry_at, children_in}
-use Rattle.dom_links.proofs.Leaves.{leaf_alone}
+use Rattle.dom_links.proofs.LeafLemmas.{leaf_alone}
 use Rattle.store_cases.proofs.links.put.Goals as goal
 
 pub link-requires-clause-no_cycle : goal.link-requires-clause-no_cycle

@@ -1,7 +1,7 @@
 -- The state that was read stands inside its root.
 use Rattle.std.proofs.Common.{rules, ◌≡◌, true, ap}
 use Rattle.dom_model.specs.Definitions.{among, HasNode, ancestors}
-use Rattle.dom_traverse.proofs.Stances.{read-inside}
+use Rattle.dom_traverse.proofs.StandAtReferencesLemmas.{read-inside}
 use Rattle.tree_cases.proofs.iterators.is_inside.Goals as goal
 
 pub returns-clause-inside : goal.returns-clause-inside

@@ -1,5 +1,5 @@
 use Rattle.std.proofs.Common.{◌∙◌, ap, sym, subst, refl, length, IsSome}
-use Rattle.uses.proofs.Removals.{data-length, data-range_in, ranged-whole, removed-ends, start-there, end-there}
+use Rattle.uses.proofs.RemovalLemmas.{data-length, data-range_in, ranged-whole, removed-ends, start-there, end-there}
 use Rattle.uses.proofs.edit.remove_text.Goals as goal
 
 pub make-requires-clause-in_order : goal.make-requires-clause-in_order

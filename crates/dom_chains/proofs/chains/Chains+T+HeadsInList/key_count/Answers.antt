@@ -1,6 +1,6 @@
 use Rattle.std.proofs.Common.{length, true, sym, ap, ◌∙◌}
 use Rattle.std.proofs.lemmas.List.{length-replicate}
-use Rattle.dom_chains.proofs.Covers.{cover-all}
+use Rattle.dom_chains.proofs.CoversLemmas.{cover-all}
 use Rattle.dom_chains.proofs.chains.Chains+T+HeadsInList.key_count.Goals as goal
 
 pub returns : goal.returns

@@ -1,6 +1,6 @@
 use Rattle.std.proofs.Common.{map, Some, ap}
 use Rattle.dom_chains.specs.{declared.heads.HeadsInList.HeadsInList, Chained.head_at}
-use Rattle.dom_chains.proofs.Steps.{chains-new}
+use Rattle.dom_chains.proofs.TableStepLemmas.{chains-new}
 use Rattle.dom_chains.proofs.chains.Chains+T+HeadsInList.new.Goals as goal
 
 pub invariant_of-result : goal.invariant_of-result

@@ -1,7 +1,7 @@
 use Rattle.std.proofs.Common.{◌-◌, ◌++◌, true, Option, ℕ, length, replicate, is_some, ap, sym, ◌∙◌}
 use Rattle.std.proofs.lemmas.List.{length-map}
 use Rattle.dom_chains.specs.{Chained.cover_of, Keyed.covered_to}
-use Rattle.dom_chains.proofs.{Covers.cover-more, Steps.keyed-is}
+use Rattle.dom_chains.proofs.{CoversLemmas.cover-more, TableStepLemmas.keyed-is}
 use Rattle.dom_chains.proofs.chains.Chains+T+HeadsInPages.cover.Goals as goal
 
 pub returns-clause-ok : goal.returns-clause-ok

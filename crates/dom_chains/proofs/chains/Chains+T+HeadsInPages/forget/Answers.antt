@@ -3,7 +3,7 @@ use Rattle.std.proofs.Common.{false, None, is_some, set, ap, ◌∙◌}
 use Rattle.std.proofs.lemmas.List.{map-set}
 use Rattle.dom_model.specs.Definitions.{among}
 use Rattle.dom_chains.specs.{Chained.items_of, Chained.keys_in, Keyed.Keyed, Keyed.keys_of}
-use Rattle.dom_chains.proofs.{Covers.head-forgotten, Steps.IsChained-heads, Told.none-head}
+use Rattle.dom_chains.proofs.{CoversLemmas.head-forgotten, TableStepLemmas.IsChained-heads, HasKeyLemmas.none-head}
 use Rattle.dom_chains.proofs.chains.Chains+T+HeadsInPages.forget.Goals as goal
 
 pub invariant_of-self : goal.invariant_of-self

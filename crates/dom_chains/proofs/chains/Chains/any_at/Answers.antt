@@ -3,7 +3,7 @@ use Rattle.std.proofs.Common.{◌≡◌, option_map, refl, sym, ap, subst, ◌�
 use Rattle.std.specs.List.{list_any}
 use Rattle.std.proofs.lemmas.Option.{same_Some}
 use Rattle.dom_chains.specs.{Chained.items_of, Chained.keys_in, Chained.links_of, Keyed.passes_at}
-use Rattle.dom_chains.proofs.{Items.any-none, Items.any-one, Items.key-within, Walking.asked-none, Walking.asked-on, Walking.walk-end, Walking.walk-key, Walking.walk-start}
+use Rattle.dom_chains.proofs.{AllItemsLemmas.any-none, AllItemsLemmas.any-one, AllItemsLemmas.key-within, ChainWalkLemmas.asked-none, ChainWalkLemmas.asked-on, ChainWalkLemmas.walk-end, ChainWalkLemmas.walk-key, ChainWalkLemmas.walk-start}
 use Rattle.dom_chains.proofs.chains.Chains.any_at.Goals as goal
 
 pub loop-id-init : goal.loop-id-init

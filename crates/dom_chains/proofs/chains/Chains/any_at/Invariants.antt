@@ -1,7 +1,7 @@
 -- The test said no of the items of the key that were passed.
 use Rattle.std.proofs.Common.{false, length}
 use Rattle.dom_chains.specs.Chained.{items_of, keys_in, links_of}
-use Rattle.dom_chains.proofs.Walking.{along, Walks, Asked}
+use Rattle.dom_chains.proofs.ChainWalkLemmas.{along, Walks, Asked}
 use Rattle.dom_chains.proofs.chains.Chains.any_at.Given as goal
 
 abbrev pub invariant-loop-id : goal.invariant-loop-id

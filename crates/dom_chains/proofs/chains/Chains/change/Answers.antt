@@ -1,7 +1,7 @@
 -- Each step changes one item of the key.
 use Rattle.std.proofs.Common.{◌≡◌, ℕ, None, set, sym, ap, subst, ◌∙◌}
 use Rattle.dom_chains.specs.{Chained.items_of, Chained.keys_in, Chained.links_of, Keyed.Keyed, Keyed.covers}
-use Rattle.dom_chains.proofs.{Items.key-within, Walking.Changed, Walking.Walks, Walking.changed-all, Walking.changed-none, Walking.changed-on, Walking.stands-here, Walking.stands-key, Walking.walk-end, Walking.walk-key, Walking.walk-start}
+use Rattle.dom_chains.proofs.{AllItemsLemmas.key-within, ChainWalkLemmas.Changed, ChainWalkLemmas.Walks, ChainWalkLemmas.changed-all, ChainWalkLemmas.changed-none, ChainWalkLemmas.changed-on, ChainWalkLemmas.stands-here, ChainWalkLemmas.stands-key, ChainWalkLemmas.walk-end, ChainWalkLemmas.walk-key, ChainWalkLemmas.walk-start}
 use Rattle.dom_chains.proofs.chains.Chains.change.Goals as goal
 
 pub loop-id-init : goal.loop-id-init

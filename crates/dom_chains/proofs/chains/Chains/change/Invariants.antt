@@ -1,7 +1,7 @@
 -- The items of the key that were passed are changed, and nothing else.
 use Rattle.std.proofs.Common.{◌≡◌, length}
 use Rattle.dom_chains.specs.Chained.{items_of, keyed, keys_in, links_of}
-use Rattle.dom_chains.proofs.Walking.{along, Walks, Changed}
+use Rattle.dom_chains.proofs.ChainWalkLemmas.{along, Walks, Changed}
 use Rattle.dom_chains.proofs.chains.Chains.change.Given as goal
 
 abbrev pub invariant-loop-id : goal.invariant-loop-id

@@ -1,5 +1,5 @@
 use Rattle.std.proofs.Common.{length, ap, arith}
-use Rattle.dom_chains.proofs.Steps.{items-length}
+use Rattle.dom_chains.proofs.TableStepLemmas.{items-length}
 use Rattle.dom_chains.proofs.chains.Chains.count.Goals as goal
 
 pub returns : goal.returns

@@ -1,7 +1,7 @@
 use Rattle.std.proofs.Common.{◌≡◌, false, Some, IfSome, IfNone, subst, ◌∙◌}
 use Rattle.dom_model.specs.Definitions.{among}
 use Rattle.dom_chains.specs.{Chained.items_of, Chained.links_of, Keyed.key_at, Keyed.keys_of}
-use Rattle.dom_chains.proofs.Told.{first-told, none-told}
+use Rattle.dom_chains.proofs.HasKeyLemmas.{first-told, none-told}
 use Rattle.dom_chains.proofs.chains.Chains.first.Goals as goal
 
 pub returns-clause-some : goal.returns-clause-some

@@ -1,7 +1,7 @@
 use Rattle.std.proofs.Common.{slice_get, sym, ap, ◌∙◌, arith}
 use Rattle.std.proofs.lemmas.{Option.slice_get_past}
 use Rattle.dom_chains.specs.Chained.{items_of}
-use Rattle.dom_chains.proofs.Steps.{items-length}
+use Rattle.dom_chains.proofs.TableStepLemmas.{items-length}
 use Rattle.dom_chains.proofs.chains.Chains.get.Goals as goal
 
 pub seat-seat-requires : goal.seat-seat-requires

@@ -1,5 +1,5 @@
 use Rattle.std.proofs.Common.{◌∙◌}
-use Rattle.dom_chains.proofs.Told.{has-told}
+use Rattle.dom_chains.proofs.HasKeyLemmas.{has-told}
 use Rattle.dom_chains.proofs.chains.Chains.has.Goals as goal
 
 pub returns : goal.returns

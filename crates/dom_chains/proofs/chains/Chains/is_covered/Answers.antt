@@ -1,6 +1,6 @@
 use Rattle.std.proofs.Common.{is_some, ap, ◌∙◌}
 use Rattle.dom_chains.specs.Keyed.{covers}
-use Rattle.dom_chains.proofs.Covers.{item-tells}
+use Rattle.dom_chains.proofs.CoversLemmas.{item-tells}
 use Rattle.dom_chains.proofs.chains.Chains.is_covered.Goals as goal
 
 pub returns : goal.returns

@@ -1,8 +1,8 @@
 -- The item is pushed, and then put into the chain of its key.
 use Rattle.std.proofs.Common.{◌++◌, [], ◌∷◌, length, map, set, refl, ap, ◌∙◌, arith}
 use Rattle.std.proofs.lemmas.List.{map_push, set_at}
-use Rattle.dom_chains.specs.{declared.table.Seat.Seat, Chained.chained_first, Chained.item_in, Chained.items_of}
-use Rattle.dom_chains.proofs.Steps.{chains-pushed, items-length}
+use Rattle.dom_chains.specs.{declared.table.Seat.Seat, Chained.chained_first, Chained.seat_item, Chained.items_of}
+use Rattle.dom_chains.proofs.TableStepLemmas.{chains-pushed, items-length}
 use Rattle.dom_chains.proofs.chains.Chains.push_reserved.Goals as goal
 
 pub link-requires-clause-chains : goal.link-requires-clause-chains
@@ -26,7 +26,7 @@ returns-clause-items g c =
     let seat : Seat _ = record { key = c.args.key; item = c.args.item; prev = c.none.result; next = c.none-2.result } in
     let items = items_of c.self.inside.table in
     ap (λ v. v.items) c.link.ensures.view
-    ∙ ap (λ xs. set (map item_in xs) c.len-id.result (c.args.key, c.args.item)) c.push_reserved.ensures.items
-    ∙ ap (λ xs. set xs c.len-id.result (c.args.key, c.args.item)) (map_push item_in seats.items seat)
+    ∙ ap (λ xs. set (map seat_item xs) c.len-id.result (c.args.key, c.args.item)) c.push_reserved.ensures.items
+    ∙ ap (λ xs. set xs c.len-id.result (c.args.key, c.args.item)) (map_push seat_item seats.items seat)
     ∙ set_at items (c.args.key, c.args.item) [] (c.args.key, c.args.item) c.len-id.result (omega (arith, c.len-id.ensures, seats.ok, items-length c.self.inside.table))
     ∙ ap (λ v. v.items ++ (c.args.key, c.args.item) ∷ []) c.self.view_is

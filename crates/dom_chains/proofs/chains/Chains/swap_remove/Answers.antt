@@ -1,8 +1,8 @@
 -- The last item is placed at the number, and is then taken out of its chain and cut off.
 use Rattle.std.proofs.Common.{◌≡◌, ◌-◌, Some, None, IfSome, length, map, take, slice_get, swap_remove, Option, option_map, refl, ap, sym, ◌∙◌, arith}
 use Rattle.std.proofs.lemmas.List.{length-set, take-map}
-use Rattle.dom_chains.specs.Chained.{item_in, items_of, keys_in, links_of, moved, unchained}
-use Rattle.dom_chains.proofs.{Spelled.covered, Spelled.in-chain, Steps.chains-cut, Steps.items-length, Steps.swapped-last}
+use Rattle.dom_chains.specs.Chained.{seat_item, items_of, keys_in, links_of, moved, unchained}
+use Rattle.dom_chains.proofs.{RechainsLemmas.covered, RechainsLemmas.in-chain, TableStepLemmas.chains-cut, TableStepLemmas.items-length, TableStepLemmas.swapped-last}
 use Rattle.dom_chains.proofs.chains.Chains.swap_remove.Goals as goal
 
 -- of whatever item there is
@@ -41,8 +41,8 @@ returns-clause-items g c =
     let t = c.self.inside.table in
     let last = c.len-last.result - 1 in
     each (slice_get c.args.self.now.items c.args.id) (λ it.
-    ap (map item_in) c.truncate.ensures.items
-    ∙ sym (take-map item_in last c.unlink.new.self.seats.items)
+    ap (map seat_item) c.truncate.ensures.items
+    ∙ sym (take-map seat_item last c.unlink.new.self.seats.items)
     ∙ ap (λ v. take last v.items) (c.unlink.ensures.same ∙ c.place.ensures.view)
     ∙ swapped-last (items_of t) c.args.id last (c.seat-moved.result.key, c.seat-moved.result.item) it (omega (arith, c.requires, ap (λ v. length v.items) c.self.view_is, items-length t, c.len-last.ensures, t.seats.ok)) c.seat-moved.ensures.item
     ∙ ap (λ v. swap_remove v.items c.args.id it) c.self.view_is)

@@ -1,8 +1,8 @@
 -- One link is written, or the head of the key.
 use Rattle.std.proofs.Common.{◌≡◌, ◌-◌, Some, None, sym, refl, ap, ◌∙◌}
 use Rattle.std.proofs.lemmas.List.{length-set, map-set}
-use Rattle.dom_chains.specs.Chained.{cover_of, item_in}
-use Rattle.dom_chains.proofs.{Covers.cover-set, Covers.item-tells, Steps.keyed-is, Steps.links-are, Steps.map-set_same}
+use Rattle.dom_chains.specs.Chained.{cover_of, seat_item}
+use Rattle.dom_chains.proofs.{CoversLemmas.cover-set, CoversLemmas.item-tells, TableStepLemmas.keyed-is, TableStepLemmas.links-are, TableStepLemmas.map-set_same}
 use Rattle.dom_chains.proofs.table.Table.lead_on.Goals as goal
 
 pub begin-requires : goal.begin-requires
@@ -13,7 +13,7 @@ returns-in-Some-clause-same g c =
     let seats = c.args.self.now.seats.items in
     let seat = c.index_mut-seat.result.now in
     keyed-is
-    (map-set_same item_in seats c.in-Some.prev seat (record seat { next = c.args.next }) c.index_mut-seat.ensures.value refl)
+    (map-set_same seat_item seats c.in-Some.prev seat (record seat { next = c.args.next }) c.index_mut-seat.ensures.value refl)
     refl (ap (λ n. c.args.self.now.seats.cap - n) (length-set seats c.in-Some.prev (record seat { next = c.args.next })))
 
 pub returns-in-Some-clause-links : goal.returns-in-Some-clause-links

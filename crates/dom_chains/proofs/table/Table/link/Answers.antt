@@ -1,8 +1,8 @@
 -- The item comes before the one that was first.
 use Rattle.std.proofs.Common.{◌-◌, Some, length, set, ap, ◌∙◌, arith}
 use Rattle.std.proofs.lemmas.List.{length-set, map-set}
-use Rattle.dom_chains.specs.{declared.table.Seat.Seat, Chained.cover_of, Chained.item_in, Chained.items_of, Chained.keys_in, Chained.keys_without, Chained.led_back, Chained.links_of, Keyed.covers, Keyed.key_at}
-use Rattle.dom_chains.proofs.{Covers.cover-set, Covers.item-tells, Spelled.IsChained-with, Spelled.first-within, Steps.IsChained-keys, Steps.first-written, Steps.items-length, Steps.key-written, Steps.keyed-is, Steps.nexts-length, Steps.prevs-length, Steps.without-written}
+use Rattle.dom_chains.specs.{declared.table.Seat.Seat, Chained.cover_of, Chained.seat_item, Chained.items_of, Chained.keys_in, Chained.keys_without, Chained.led_back, Chained.links_of, Keyed.covers, Keyed.key_at}
+use Rattle.dom_chains.proofs.{CoversLemmas.cover-set, CoversLemmas.item-tells, RechainsLemmas.IsChained-with, RechainsLemmas.first-within, TableStepLemmas.IsChained-keys, TableStepLemmas.first-written, TableStepLemmas.items-length, TableStepLemmas.key-written, TableStepLemmas.keyed-is, TableStepLemmas.nexts-length, TableStepLemmas.prevs-length, TableStepLemmas.without-written}
 use Rattle.dom_chains.proofs.table.Table.link.Goals as goal
 
 pub lead_back-requires : goal.lead_back-requires
@@ -25,7 +25,7 @@ returns-clause-view g c =
     let back = c.lead_back.new.self in
     let seat : Seat _ = record { key = c.args.key; item = c.args.item; prev = c.none.result; next = c.head-next.result } in
     keyed-is
-    (map-set item_in back.seats.items c.args.id seat ∙ ap (λ v. set v.items c.args.id (c.args.key, c.args.item)) c.lead_back.ensures.same)
+    (map-set seat_item back.seats.items c.args.id seat ∙ ap (λ v. set v.items c.args.id (c.args.key, c.args.item)) c.lead_back.ensures.same)
     (ap cover_of c.begin.ensures ∙ cover-set (g.H.Heads.by_key back.heads) c.args.key c.to-2.result (ap (λ v. covers v.covered c.args.key) c.lead_back.ensures.same ∙ c.requires.covered) ∙ ap (λ v. v.covered) c.lead_back.ensures.same)
     (ap (λ n. back.seats.cap - n) (length-set back.seats.items c.args.id seat) ∙ ap (λ v. v.room) c.lead_back.ensures.same)
 
@@ -37,7 +37,7 @@ returns-clause-chains g c chain ok =
     let seat : Seat _ = record { key = c.args.key; item = c.args.item; prev = c.none.result; next = c.head-next.result } in
     let l = links_of by_key old in
     let items = set (items_of old) c.args.id (c.args.key, c.args.item) in
-    let is = map-set item_in back.seats.items c.args.id seat ∙ ap (λ v. set v.items c.args.id (c.args.key, c.args.item)) c.lead_back.ensures.same in
+    let is = map-set seat_item back.seats.items c.args.id seat ∙ ap (λ v. set v.items c.args.id (c.args.key, c.args.item)) c.lead_back.ensures.same in
     let links = first-written back.seats.items (by_key back.heads) _ l c.args.id c.args.key seat c.none.ensures c.head-next.ensures (c.lead_back.ensures.links ∙ ap (λ o. led_back c.head-next.result o l) c.to.ensures)
     (c.begin.ensures ∙ ap (λ o. set (by_key back.heads) c.args.key (Some o)) c.to-2.ensures) in
     let kept = IsChained-keys (keys_without c.args.id (keys_in old)) (keys_without c.args.id (key_at items)) chain l (without-written (items_of old) c.args.id (c.args.key, c.args.item)) ok in

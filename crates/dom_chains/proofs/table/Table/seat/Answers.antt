@@ -1,5 +1,5 @@
 use Rattle.std.proofs.Common.{arith}
-use Rattle.dom_chains.proofs.Steps.{item-read, items-length, link-read}
+use Rattle.dom_chains.proofs.TableStepLemmas.{item-read, items-length, link-read}
 use Rattle.dom_chains.proofs.table.Table.seat.Goals as goal
 
 pub index-requires : goal.index-requires

@@ -1,7 +1,7 @@
 -- The neighbours of the item are led past it.
 use Rattle.std.proofs.Common.{option_map, length, sym, ap, ◌∙◌, subst}
 use Rattle.dom_chains.specs.Chained.{ForLink, IsChained, Links, keys_in, keys_without, led_back, links_of, unchained}
-use Rattle.dom_chains.proofs.Spelled.{IsChained-without, back-within, key-covered, on-within}
+use Rattle.dom_chains.proofs.RechainsLemmas.{IsChained-without, back-within, key-covered, on-within}
 use Rattle.dom_chains.proofs.table.Table.unlink.Goals as goal
 
 pub lead_on-requires-clause-covered : goal.lead_on-requires-clause-covered

@@ -1,5 +1,5 @@
 use Rattle.std.proofs.Common.{◌≤◌, List, ℕ, length, sym, subst, arith}
-use Rattle.dom_edit.proofs.TailUnits.{within-whole}
+use Rattle.dom_edit.proofs.TailLemmas.{within-whole}
 use Rattle.dom_edit.proofs.tail.Tail.pass.Goals as goal
 
 pub overflow_add-self : goal.overflow_add-self

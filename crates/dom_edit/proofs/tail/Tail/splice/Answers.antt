@@ -1,7 +1,7 @@
 use Rattle.std.proofs.Common.{◌≤◌, List, ℕ, drop, length, ap, sym, ◌∙◌, subst, arith}
 use Rattle.dom_model.specs.Definitions.{spliced}
 use Rattle.std.proofs.lemmas.Result.{on_ok_weaker}
-use Rattle.dom_edit.proofs.TailUnits.{within-whole, drop-spliced}
+use Rattle.dom_edit.proofs.TailLemmas.{within-whole, drop-spliced}
 use Rattle.dom_edit.proofs.tail.Tail.splice.Goals as goal
 
 pub overflow_add-self-inside : goal.overflow_add-self-inside

@@ -3,7 +3,7 @@ use Rattle.std.proofs.lemmas.Bool.Decides.{nat_tests}
 use Rattle.dom_model.specs.Definitions.{Grove, Content}
 use Rattle.dom_model.proofs.TokenText.{AlikeTrees.TreesAlike.bared, AlikeTrees.TreesAlikeAfter.bared-adopted}
 use Rattle.dom_edit.specs.declared.world.World.{World}
-use Rattle.dom_edit.proofs.{Marking.stand-by_adopt, Adopting.removed-held, Adopting.removed-root, Adopting.removed-document, Adopting.whole-adopted, Adopting.follows-staying, NodesKept.nodes-then, NodesKept.nodes-adopted, WatchersKept.watchers-ranged}
+use Rattle.dom_edit.proofs.{StandByEditsLemmas.stand-by_adopt, AdoptLemmas.removed-held, AdoptLemmas.removed-root, AdoptLemmas.removed-document, AdoptLemmas.whole-adopted, AdoptLemmas.follows-staying, KeepsNodesLemmas.nodes-then, KeepsNodesLemmas.nodes-adopted, KeepsWatchersLemmas.watchers-ranged}
 use Rattle.dom_edit.proofs.world.World.adopt.Goals as goal
 
 pub document_of-requires : goal.document_of-requires

@@ -1,4 +1,4 @@
-use Rattle.dom_edit.proofs.AppendedLeaves.{leaf-allowed, leaf-appended, leaf-marked, leaf-or_not}
+use Rattle.dom_edit.proofs.AppendLeafLemmas.{leaf-allowed, leaf-appended, leaf-marked, leaf-or_not}
 use Rattle.dom_edit.proofs.world.World.append_leaf.Goals as goal
 
 pub returns-then-is_idle-clause-allowed : goal.returns-then-is_idle-clause-allowed

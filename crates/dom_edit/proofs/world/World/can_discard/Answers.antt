@@ -1,9 +1,9 @@
 use Rattle.std.proofs.Common.{None, is_some, ◌≡◌, false, refl, ap, sym, ◌∙◌, tests, rules}
 use Rattle.dom_model.specs.declared.Kind.TheVariants.{Document}
 use Rattle.dom_model.specs.Definitions.{parent_of, is_of_kind}
-use Rattle.dom_edit.proofs.Naming.{root-not_held, not_in_use, not_used}
+use Rattle.dom_edit.proofs.IsUsedLemmas.{root-not_held, not_in_use, not_used}
 use Rattle.dom_edit.proofs.world.World.can_discard.Goals as goal
-use Rattle.dom_tree.proofs.Referring.{none-from}
+use Rattle.dom_tree.proofs.RefersLemmas.{none-from}
 
 pub returns-then-not-is_of_kind-clause-unused : goal.returns-then-not-is_of_kind-clause-unused
 returns-then-not-is_of_kind-clause-unused c =

@@ -1,6 +1,6 @@
 use Rattle.std.proofs.Common.{ap, ◌∙◌, tests, rules}
-use Rattle.dom_edit.proofs.{Marking.stand-by_replace, InsertedNodes.brought-entering, ReplacedNodes.insertable-instead, ReplacedNodes.come-instead, ReplacedNodes.follows-replace, NodesKept.one-there, NodesKept.stay-there, NodesKept.stay-some, NodesKept.previous-held, NodesKept.next-held, NodesKept.entering-held, NodesKept.reference-held, NodesKept.nodes-then}
-use Rattle.dom_edit.specs.Inserting.{reference_in}
+use Rattle.dom_edit.proofs.{StandByEditsLemmas.stand-by_replace, InsertLemmas.brought-entering, ReplaceLemmas.insertable-instead, ReplaceLemmas.come-instead, ReplaceLemmas.follows-replace, KeepsNodesLemmas.one-there, KeepsNodesLemmas.stay-there, KeepsNodesLemmas.stay-some, KeepsNodesLemmas.previous-held, KeepsNodesLemmas.next-held, KeepsNodesLemmas.entering-held, KeepsNodesLemmas.reference-held, KeepsNodesLemmas.nodes-then}
+use Rattle.dom_edit.specs.Insertion.{reference_in}
 use Rattle.dom_edit.proofs.world.World.check_and_replace.Goals as goal
 
 pub enter-requires-clause-allowed : goal.enter-requires-clause-allowed

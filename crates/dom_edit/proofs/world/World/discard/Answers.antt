@@ -1,6 +1,6 @@
 use Rattle.std.proofs.Common.{refl, tests, rules}
 use Rattle.dom_edit.specs.declared.world.World.{World}
-use Rattle.dom_edit.proofs.Naming.{no-end-inside, whole-left}
+use Rattle.dom_edit.proofs.IsUsedLemmas.{no-end-inside, whole-left}
 use Rattle.dom_edit.proofs.world.World.discard.Goals as goal
 
 pub forget-requires-clause-empty : goal.forget-requires-clause-empty

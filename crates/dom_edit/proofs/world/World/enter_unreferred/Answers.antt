@@ -1,5 +1,5 @@
 use Rattle.std.proofs.Common.{◌∙◌, subst}
-use Rattle.dom_edit.specs.Inserting.{ComesIn}
+use Rattle.dom_edit.specs.Insertion.{ComesIn}
 use Rattle.dom_edit.proofs.world.World.enter_unreferred.Goals as goal
 
 pub enter_alone-requires-clause-alone : goal.enter_alone-requires-clause-alone

@@ -3,7 +3,7 @@ use Rattle.std.proofs.lemmas.Result.{on_ok_weaker}
 use Rattle.dom_model.proofs.Forests.{Entries.HasNode-occurs, Climbing.hits-first}
 use Rattle.dom_model.specs.Definitions.{insert_all}
 use Rattle.dom_edit.specs.Whole.{Follows}
-use Rattle.dom_edit.proofs.{InsertedNodes.follows-insert_all, LeftAlone.quiet-above, LeftAlone.same-left, NodesKept.none-there, NodesKept.placeable-there, NodesKept.child-held, NodesKept.ahead-held, NodesKept.stay-there, NodesKept.stay-some, NodesKept.nodes-then, NodesKept.nodes-observed, Unheard.follows-unheard, world.World.insert_all.Goals.then-suppressed-via-then-suppressed, world.World.insert_all.Goals.then-suppressed-via-else-suppressed+then-is_idle}
+use Rattle.dom_edit.proofs.{InsertLemmas.follows-insert_all, LeavesOlderLemmas.quiet-above, LeavesOlderLemmas.same-left, KeepsNodesLemmas.none-there, KeepsNodesLemmas.placeable-there, KeepsNodesLemmas.child-held, KeepsNodesLemmas.ahead-held, KeepsNodesLemmas.stay-there, KeepsNodesLemmas.stay-some, KeepsNodesLemmas.nodes-then, KeepsNodesLemmas.nodes-observed, UnobservedLemmas.follows-unheard, world.World.insert_all.Goals.then-suppressed-via-then-suppressed, world.World.insert_all.Goals.then-suppressed-via-else-suppressed+then-is_idle}
 use Rattle.dom_edit.proofs.world.World.insert_all.Goals as goal
 
 pub queue_tree_record-requires-clause-held : goal.queue_tree_record-requires-clause-held

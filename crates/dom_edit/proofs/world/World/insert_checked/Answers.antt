@@ -1,6 +1,6 @@
 use Rattle.std.proofs.Common.{tests, rules}
 use Rattle.std.proofs.lemmas.Result.{on_ok_weaker}
-use Rattle.dom_edit.proofs.{Marking.stand-by_pre_insert, ReplacedNodes.insertable-checked, ReplacedNodes.follows-pre_insert}
+use Rattle.dom_edit.proofs.{StandByEditsLemmas.stand-by_pre_insert, ReplaceLemmas.insertable-checked, ReplaceLemmas.follows-pre_insert}
 use Rattle.dom_edit.proofs.world.World.insert_checked.Goals as goal
 
 pub insert-requires-clause-allowed : goal.insert-requires-clause-allowed

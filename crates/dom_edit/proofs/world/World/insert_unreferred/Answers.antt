@@ -1,7 +1,7 @@
 use Rattle.std.proofs.Common.{tests, rules}
 use Rattle.std.proofs.lemmas.Result.{on_ok_weaker}
 use Rattle.dom_model.proofs.Forests.Entries.{HasNode-occurs}
-use Rattle.dom_edit.proofs.Marking.{stand-by_insert}
+use Rattle.dom_edit.proofs.StandByEditsLemmas.{stand-by_insert}
 use Rattle.dom_edit.proofs.world.World.insert_unreferred.Goals as goal
 
 pub entering-requires : goal.entering-requires

@@ -1,8 +1,8 @@
 use Rattle.std.proofs.Common.{◌||◌, ◌≡◌, ℕ, Bool, refl, ◌∙◌}
 use Rattle.std.specs.List.{list_any, flat_map}
 use Rattle.dom_model.specs.Definitions.{among, inclusive_descendants, nodes_of_range, nodes_of_iterator, nodes_of_walker, nodes_unless_released, observed_nodes}
-use Rattle.dom_observe.specs.Held.{named}
-use Rattle.dom_edit.proofs.{Naming.or-met, Naming.or-next, Naming.named-own, Naming.named-parts, world.World.is_named.Goals.then-refers, world.World.is_named.Goals.else-refers, world.World.is_named.Goals.then-refers-2, world.World.is_named.Goals.else-refers-2, world.World.is_named.Goals.then-refers-3, world.World.is_named.Goals.else-refers-3}
+use Rattle.dom_observe.specs.ObservedNodes.{referred_nodes}
+use Rattle.dom_edit.proofs.{IsUsedLemmas.or-met, IsUsedLemmas.or-next, IsUsedLemmas.named-own, IsUsedLemmas.named-parts, world.World.is_named.Goals.then-refers, world.World.is_named.Goals.else-refers, world.World.is_named.Goals.then-refers-2, world.World.is_named.Goals.else-refers-2, world.World.is_named.Goals.then-refers-3, world.World.is_named.Goals.else-refers-3}
 use Rattle.dom_edit.proofs.world.World.is_named.Goals as goal
 
 pub returns-then-refers-4-clause-own : goal.returns-then-refers-4-clause-own
@@ -24,7 +24,7 @@ returns-then-refers-4-clause-own c =
       | then-refers-3 b ↦ or-met c.if-refers-3.value c.if-refers-2.value _ _ (b.value-is ∙ b.if-refers-3.true) b.if-refers-3.true second
       | else-refers-3 b ↦ or-next c.if-refers-3.value c.if-refers-2.value b.refers-else-refers-3.result _ _ b.value-is b.if-refers-3.false second b.refers-else-refers-3.ensures
     ] in
-    or-met c.if-refers-3.value c.if-refers-3.value _ (list_any p (named v.observers)) c.if-refers-4.true c.if-refers-4.true third ∙ named-own v p
+    or-met c.if-refers-3.value c.if-refers-3.value _ (list_any p (referred_nodes v.observers)) c.if-refers-4.true c.if-refers-4.true third ∙ named-own v p
 
 pub returns-then-refers-4-clause-shown : goal.returns-then-refers-4-clause-shown
 returns-then-refers-4-clause-shown c w s =

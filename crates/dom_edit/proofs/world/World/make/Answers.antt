@@ -1,8 +1,8 @@
 use Rattle.std.proofs.Common.{unwrap_or, ◌≡◌, ◌+◌, refl, ap, ◌∙◌, tests, rules}
 use Rattle.dom_ranges.specs.Tables.{covered_to}
-use Rattle.dom_observe.proofs.Outcomes.{by_outcome}
-use Rattle.dom_edit.specs.{declared.world.World.World, Keeping.present}
-use Rattle.dom_edit.proofs.{Making.follows-made, Making.whole-made, Making.whole-covered, CallerLemmas.labels-made, NodesKept.nodes-same, WatchersKept.watchers-ranged}
+use Rattle.dom_observe.proofs.ResultLemmas.{by_outcome}
+use Rattle.dom_edit.specs.{declared.world.World.World, KeptNodes.present}
+use Rattle.dom_edit.proofs.{MakeLemmas.follows-made, MakeLemmas.whole-made, MakeLemmas.whole-covered, CallerLemmas.labels-made, KeepsNodesLemmas.nodes-same, KeepsWatchersLemmas.watchers-ranged}
 use Rattle.dom_edit.proofs.world.World.make.Goals as goal
 
 pub returns-clause-whole : goal.returns-clause-whole

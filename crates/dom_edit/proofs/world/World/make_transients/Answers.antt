@@ -1,4 +1,4 @@
-use Rattle.dom_edit.proofs.{Leaving.follows-idle, NodesKept.one-there, Named.whole-named, WatchersKept.observers-same}
+use Rattle.dom_edit.proofs.{RemoveLemmas.follows-idle, KeepsNodesLemmas.one-there, AreThereLemmas.whole-named, KeepsWatchersLemmas.observers-same}
 use Rattle.std.proofs.Common.{[], ◌∷◌, refl, ap}
 use Rattle.dom_observe.specs.Watchers.{Watchers}
 use Rattle.dom_edit.proofs.world.World.make_transients.Goals as goal

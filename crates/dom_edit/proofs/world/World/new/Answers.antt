@@ -1,5 +1,5 @@
 use Rattle.std.proofs.Common.{ap}
-use Rattle.dom_edit.proofs.Beginning.{whole-empty, shows-first}
+use Rattle.dom_edit.proofs.FirstWorldLemmas.{whole-empty, shows-first}
 use Rattle.dom_edit.proofs.world.World.new.Goals as goal
 
 pub make-requires-clause-whole : goal.make-requires-clause-whole

@@ -1,7 +1,7 @@
 -- The node is named, and those that the record names.
 use Rattle.std.proofs.Common.{[], ◌∷◌, ◌++◌, refl}
 use Rattle.dom_model.specs.Definitions.{if_any}
-use Rattle.dom_edit.proofs.{Named.there-append, Named.there-told, Named.whole-named, NodesKept.none-there, NodesKept.one-there}
+use Rattle.dom_edit.proofs.{AreThereLemmas.there-append, AreThereLemmas.there-told, AreThereLemmas.whole-named, KeepsNodesLemmas.none-there, KeepsNodesLemmas.one-there}
 use Rattle.dom_edit.proofs.world.World.note_removal.Goals as goal
 
 pub returns-clause-whole : goal.returns-clause-whole

@@ -1,4 +1,4 @@
-use Rattle.dom_edit.proofs.NodesKept.{none-there, nodes-observed}
+use Rattle.dom_edit.proofs.KeepsNodesLemmas.{none-there, nodes-observed}
 use Rattle.dom_edit.proofs.world.World.queue_emptied.Goals as goal
 
 pub queue_tree_record-requires-clause-added : goal.queue_tree_record-requires-clause-added

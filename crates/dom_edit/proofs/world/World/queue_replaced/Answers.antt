@@ -1,6 +1,6 @@
 use Rattle.std.proofs.Common.{sym, ◌∙◌, tests, rules}
 use Rattle.std.proofs.lemmas.Result.{on_ok_weaker}
-use Rattle.dom_edit.proofs.{NodesKept.nodes-observed, ReplacedNodes.follows-added, ReplacedNodes.follows-removed, world.World.queue_replaced.Goals.else-is_empty-via-then-is_empty+else-is_empty-2, world.World.queue_replaced.Goals.else-is_empty-via-else-is_empty}
+use Rattle.dom_edit.proofs.{KeepsNodesLemmas.nodes-observed, ReplaceLemmas.follows-added, ReplaceLemmas.follows-removed, world.World.queue_replaced.Goals.else-is_empty-via-then-is_empty+else-is_empty-2, world.World.queue_replaced.Goals.else-is_empty-via-else-is_empty}
 use Rattle.dom_edit.proofs.world.World.queue_replaced.Goals as goal
 
 pub returns-clause-queued : goal.returns-clause-queued

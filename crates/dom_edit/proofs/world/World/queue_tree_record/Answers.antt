@@ -1,7 +1,7 @@
 use Rattle.std.proofs.Common.{◌∷◌, ◌++◌, refl, ap}
 use Rattle.dom_observe.specs.Watchers.{Watchers}
 use Rattle.dom_model.specs.Definitions.{if_any}
-use Rattle.dom_edit.proofs.Named.{there-told, whole-named}
+use Rattle.dom_edit.proofs.AreThereLemmas.{there-told, whole-named}
 use Rattle.dom_edit.proofs.world.World.queue_tree_record.Goals as goal
 
 pub returns-clause-whole : goal.returns-clause-whole
@@ -9,11 +9,11 @@ returns-clause-whole c =
     let v = c.args.self.now in
     let r = c.requires in
     let a = c.args in
-    whole-named v (record v { observers = c.queue.new.self }) (a.target ∷ (a.added.now ++ (a.removed.now ++ (if_any a.previous ++ if_any a.next)))) refl c.requires.whole c.queue.ensures.names
+    whole-named v (record v { observers = c.queue_record.new.self }) (a.target ∷ (a.added.now ++ (a.removed.now ++ (if_any a.previous ++ if_any a.next)))) refl c.requires.whole c.queue_record.ensures.names
     (there-told v.tree.forest a.target a.added.now a.removed.now a.previous a.next r.held r.added r.removed r.previous r.next)
 
 pub returns-clause-quiet : goal.returns-clause-quiet
-returns-clause-quiet c unnamed = ap (λ (o : Watchers). record c.args.self.now { observers = o }) (c.queue.ensures.quiet unnamed)
+returns-clause-quiet c unnamed = ap (λ (o : Watchers). record c.args.self.now { observers = o }) (c.queue_record.ensures.quiet unnamed)
 
 pub returns-clause-observers : goal.returns-clause-observers
-returns-clause-observers c = c.queue.ensures.made
+returns-clause-observers c = c.queue_record.ensures.made

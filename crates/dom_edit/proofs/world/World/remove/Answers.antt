@@ -1,5 +1,5 @@
 use Rattle.std.proofs.lemmas.Result.{on_ok_weaker}
-use Rattle.dom_edit.proofs.Marking.{stand-by_remove}
+use Rattle.dom_edit.proofs.StandByEditsLemmas.{stand-by_remove}
 use Rattle.dom_edit.proofs.world.World.remove.Goals as goal
 
 pub returns-clause-markers : goal.returns-clause-markers

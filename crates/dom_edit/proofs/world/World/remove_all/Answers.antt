@@ -3,7 +3,7 @@ use Rattle.std.proofs.lemmas.List.{take_more}
 use Rattle.dom_model.specs.Definitions.{remove, remove_all}
 use Rattle.dom_model.proofs.Forests.Entries.{HasNode-occurs}
 use Rattle.dom_edit.specs.Whole.{Follows}
-use Rattle.dom_edit.proofs.{Following.follows-then, InsertedNodes.item-hit, InsertedNodes.remove_all-more, InsertedNodes.there-removed, InsertedNodes.follows-as, NodesKept.nodes-then}
+use Rattle.dom_edit.proofs.{FollowsLemmas.follows-then, InsertLemmas.item-hit, InsertLemmas.remove_all-more, InsertLemmas.there-removed, InsertLemmas.follows-as, KeepsNodesLemmas.nodes-then}
 use Rattle.dom_edit.proofs.world.World.remove_all.Goals as goal
 
 pub remove_node-requires-clause-held : goal.remove_node-requires-clause-held

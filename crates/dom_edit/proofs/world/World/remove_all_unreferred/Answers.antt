@@ -3,7 +3,7 @@ use Rattle.std.proofs.lemmas.List.{take_more, drop_more}
 use Rattle.dom_model.specs.Definitions.{remove, remove_all}
 use Rattle.dom_model.proofs.Forests.{Climbing.hits-first, Indices.child-parent, Indices.child-once}
 use Rattle.dom_edit.specs.Whole.{Follows}
-use Rattle.dom_edit.proofs.{Following.follows-none, Following.follows-then, InsertedNodes.remove_all-more, InsertedNodes.follows-as, LeftAlone.newer-two, LeftAlone.child-newer, Unreferred.AreLeft, Unreferred.first-left, Unreferred.rest-left, NodesKept.nodes-none, NodesKept.nodes-then}
+use Rattle.dom_edit.proofs.{FollowsLemmas.follows-none, FollowsLemmas.follows-then, InsertLemmas.remove_all-more, InsertLemmas.follows-as, LeavesOlderLemmas.newer-two, LeavesOlderLemmas.child-newer, IsUnreferredLemmas.AreLeft, IsUnreferredLemmas.first-left, IsUnreferredLemmas.rest-left, KeepsNodesLemmas.nodes-none, KeepsNodesLemmas.nodes-then}
 use Rattle.dom_edit.proofs.world.World.remove_all_unreferred.Goals as goal
 
 pub loop-node-init : goal.loop-node-init

@@ -1,8 +1,8 @@
 -- The children that were passed are removed; the others are left.
 use Rattle.std.proofs.Common.{[], ◌∷◌, take, drop}
 use Rattle.dom_model.specs.Definitions.{remove_all}
-use Rattle.dom_edit.specs.{Whole.Follows, Keeping.KeepsNodes, Leaving.LeavesOlder}
-use Rattle.dom_edit.proofs.Unreferred.{AreLeft}
+use Rattle.dom_edit.specs.{Whole.Follows, KeptNodes.KeepsNodes, OlderNodes.LeavesOlder}
+use Rattle.dom_edit.proofs.IsUnreferredLemmas.{AreLeft}
 use Rattle.dom_edit.proofs.world.World.remove_all_unreferred.Given as goal
 
 abbrev pub invariant-loop-node : goal.invariant-loop-node

@@ -1,5 +1,5 @@
 use Rattle.std.proofs.Common.{tests, rules}
-use Rattle.dom_edit.proofs.Marking.{stand-by_remove}
+use Rattle.dom_edit.proofs.StandByEditsLemmas.{stand-by_remove}
 use Rattle.dom_edit.proofs.world.World.remove_child.Goals as goal
 
 pub returns-clause-markers : goal.returns-clause-markers

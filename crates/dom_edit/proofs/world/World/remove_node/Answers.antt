@@ -1,7 +1,7 @@
 use Rattle.std.proofs.Common.{Some, None, ◌≡◌, true, sym, ◌∙◌, tests, rules}
 use Rattle.std.proofs.lemmas.Result.{on_ok_weaker}
 use Rattle.dom_model.specs.Definitions.{parent_of}
-use Rattle.dom_edit.proofs.{Following.follows-none, Leaving.it_is, Leaving.parent-held, Leaving.held-taken, Leaving.left-apart, Leaving.follows-removed, Leaving.follows-noted, NodesKept.nodes-then, NodesKept.nodes-observed, NodesKept.stay-some, NodesKept.previous-held, NodesKept.next-held}
+use Rattle.dom_edit.proofs.{FollowsLemmas.follows-none, RemoveLemmas.it_is, RemoveLemmas.parent-held, RemoveLemmas.held-taken, RemoveLemmas.left-apart, RemoveLemmas.follows-removed, RemoveLemmas.follows-noted, KeepsNodesLemmas.nodes-then, KeepsNodesLemmas.nodes-observed, KeepsNodesLemmas.stay-some, KeepsNodesLemmas.previous-held, KeepsNodesLemmas.next-held}
 use Rattle.dom_edit.proofs.world.World.remove_node.Goals as goal
 
 pub make_transients-requires-clause-held : goal.make_transients-requires-clause-held

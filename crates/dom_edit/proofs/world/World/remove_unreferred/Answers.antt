@@ -2,8 +2,8 @@ use Rattle.std.proofs.Common.{[], ◌∷◌, true, ap, ◌∙◌, arith}
 use Rattle.std.proofs.lemmas.Result.{on_ok_weaker}
 use Rattle.dom_model.specs.Definitions.{taken_out}
 use Rattle.dom_model.proofs.Forests.{Climbing.hits-first, Entries.HasNode-occurs, Indices.parent-there}
-use Rattle.dom_edit.specs.{declared.world.World.World, Whole.Follows, Keeping.present}
-use Rattle.dom_edit.proofs.{Following.follows-none, Leaving.parent-held, Leaving.held-taken, Leaving.follows-cut_out, Leaving.whole-taken, Leaving.follows-removed, LeftAlone.cut-left, LeftAlone.quiet-above, LeftAlone.same-left, Unreferred.ends-stay, NodesKept.nodes-then, NodesKept.nodes-observed, NodesKept.nodes-cut, WatchersKept.watchers-cut}
+use Rattle.dom_edit.specs.{declared.world.World.World, Whole.Follows, KeptNodes.present}
+use Rattle.dom_edit.proofs.{FollowsLemmas.follows-none, RemoveLemmas.parent-held, RemoveLemmas.held-taken, RemoveLemmas.follows-cut_out, RemoveLemmas.whole-taken, RemoveLemmas.follows-removed, LeavesOlderLemmas.cut-left, LeavesOlderLemmas.quiet-above, LeavesOlderLemmas.same-left, IsUnreferredLemmas.ends-stay, KeepsNodesLemmas.nodes-then, KeepsNodesLemmas.nodes-observed, KeepsNodesLemmas.nodes-cut, KeepsWatchersLemmas.watchers-cut}
 use Rattle.dom_edit.proofs.world.World.remove_unreferred.Goals as goal
 
 pub cut_out-requires-clause-held : goal.cut_out-requires-clause-held

@@ -2,7 +2,7 @@ use Rattle.std.proofs.Common.{sym, ◌∙◌, subst, tests, rules}
 use Rattle.std.proofs.lemmas.Result.{on_ok_weaker}
 use Rattle.dom_model.specs.Definitions.{remove_all}
 use Rattle.dom_edit.specs.Whole.{Follows}
-use Rattle.dom_edit.proofs.{Marking.stand-by_replace_all, ReplacedNodes.children-held, ReplacedNodes.parent-emptied, ReplacedNodes.insertable-only, ReplacedNodes.come-only, ReplacedNodes.brought-if_any, ReplacedNodes.follows-replace_all, NodesKept.stay-there, NodesKept.entering_if_any-held, NodesKept.nodes-then}
+use Rattle.dom_edit.proofs.{StandByEditsLemmas.stand-by_replace_all, ReplaceLemmas.children-held, ReplaceLemmas.parent-emptied, ReplaceLemmas.insertable-only, ReplaceLemmas.come-only, ReplaceLemmas.brought-if_any, ReplaceLemmas.follows-replace_all, KeepsNodesLemmas.stay-there, KeepsNodesLemmas.entering_if_any-held, KeepsNodesLemmas.nodes-then}
 use Rattle.dom_edit.proofs.world.World.replace_children_checked.Goals as goal
 
 pub remove_all-requires-clause-held : goal.remove_all-requires-clause-held

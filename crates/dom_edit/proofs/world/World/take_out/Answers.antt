@@ -1,8 +1,8 @@
 use Rattle.std.proofs.Common.{ap, ◌∙◌}
 use Rattle.dom_model.specs.Definitions.{parent_of, taken_out}
 use Rattle.dom_ranges.specs.Tables.{RangeTable}
-use Rattle.dom_edit.specs.{declared.world.World.World, Keeping.present, Whole.Follows}
-use Rattle.dom_edit.proofs.{Leaving.if_some, Leaving.it_is, Leaving.held-covered, Leaving.parent-held, Leaving.follows-cut_out, Leaving.whole-taken, NodesKept.nodes-cut, WatchersKept.present-moved, WatchersKept.watchers-cut}
+use Rattle.dom_edit.specs.{declared.world.World.World, KeptNodes.present, Whole.Follows}
+use Rattle.dom_edit.proofs.{RemoveLemmas.if_some, RemoveLemmas.it_is, RemoveLemmas.held-covered, RemoveLemmas.parent-held, RemoveLemmas.follows-cut_out, RemoveLemmas.whole-taken, KeepsNodesLemmas.nodes-cut, KeepsWatchersLemmas.present-moved, KeepsWatchersLemmas.watchers-cut}
 use Rattle.dom_edit.proofs.world.World.take_out.Goals as goal
 
 pub removing-requires-clause-parent : goal.removing-requires-clause-parent

@@ -10,7 +10,7 @@ use denote.Struct.Laws.{field_copy}
 use denote.Struct.Lending.{of_Lends}
 use Rattle.core.specs.contracts.marker.PhantomData as marker
 use Rattle.dom_links.specs.contracts.pool.Pool as C
-use Rattle.dom_links.proofs.{pool.Pool.TheLaw.Statement.statement, Sharing.cells_lent_laws, Sharing.Lends-cells}
+use Rattle.dom_links.proofs.{pool.Pool.TheLaw.Statement.statement, CellsLentLemmas.cells_lent_laws, CellsLentLemmas.Lends-cells}
 
 pub shares : (N : RattleType) (L : Laws N) → statement N L
 shares N L = of_Lends (C.struct N) (C.the_codes N.Denot N.coded (marker.the_row RawPtr).coded) (C.the_heap N) (C.the_lent N)

@@ -38,7 +38,7 @@ use denote.Triple.Walked.{says, needs, Stays, stay_dropped, walk_of, ends_at, Go
 use Rattle.std.proofs.Common.{IsSome, Some}
 use Rattle.std_alloc.proofs.{VecSteps.Shapes.after, RcSteps.word, RcSteps.word-Good}
 use Rattle.dom_links.specs.{Cells.look, Ownership.cells_lent, contracts.pool.Pool.get.Key.name as #self}
-use Rattle.dom_links.proofs.{Finding.Found, Finding.found, Memory.El, Memory.args, Memory.R, Memory.Pr, Memory.Np, Memory.word_had, Memory.cell_seen}
+use Rattle.dom_links.proofs.{LookLemmas.Found, LookLemmas.found, PoolWalkLemmas.El, PoolWalkLemmas.args, PoolWalkLemmas.R, PoolWalkLemmas.Pr, PoolWalkLemmas.Np, PoolWalkLemmas.word_had, PoolWalkLemmas.cell_seen}
 use Rattle.dom_links.proofs.pool.Pool.get.Statement as stated
 use Rattle.dom_links.proofs.pool.Pool.get.Code as code
 

@@ -38,8 +38,8 @@ use denote.Triple.Table.{entered, run_framed}
 use denote.Triple.Walked.{says, needs, Stays, stay_dropped, walk_of, ends_at, Goes-dropped, Goes-spent_ref, walk_Meets}
 use Rattle.std.proofs.Common.{IsSome, Some}
 use Rattle.std_alloc.proofs.{VecSteps.Shapes.after, RcSteps.word, RcSteps.word-Good}
-use Rattle.dom_links.specs.{Cells.look, Lends.with_item, Ownership.chunk, Ownership.cell_owns, Ownership.cells_own, contracts.pool.Pool.get_mut.Key.name as #self}
-use Rattle.dom_links.proofs.{Finding.Found, Finding.found, Memory.El, Memory.args, Memory.R, Memory.Pr, Memory.Np, Memory.Mark, Memory.word_had, Memory.cells_cut, Memory.cells_glue}
+use Rattle.dom_links.specs.{Cells.look, Borrows.with_cell, Ownership.chunk, Ownership.cell_owns, Ownership.cells_own, contracts.pool.Pool.get_mut.Key.name as #self}
+use Rattle.dom_links.proofs.{LookLemmas.Found, LookLemmas.found, PoolWalkLemmas.El, PoolWalkLemmas.args, PoolWalkLemmas.R, PoolWalkLemmas.Pr, PoolWalkLemmas.Np, PoolWalkLemmas.Mark, PoolWalkLemmas.word_had, PoolWalkLemmas.cells_cut, PoolWalkLemmas.cells_glue}
 use Rattle.dom_links.proofs.pool.Pool.get_mut.Statement as stated
 use Rattle.dom_links.proofs.pool.Pool.get_mut.Code as code
 
@@ -60,7 +60,7 @@ module _ (E : El) where
   Gives d node r = look node.ptr d.cells ≡ Some r.now
 
   abbrev spec : {M : Type 1} {𝓤 : Ura M} (𝓛 : Logic 𝓤) → Clauses 𝓤 ended
-  spec {𝓤 = 𝓤} 𝓛 κs a = record { ghost = Unit {0}; requires = λ _. fact 𝓤 (Asks a.0.now a.1.0); ensures = λ _ r w. sep 𝓤 (sem 𝓛 (follows (Pr E) (R E) a.0.ghost_name r.ghost_name (with_item a.0.now a.1.0.ptr))) (fact 𝓤 (Gives a.0.now a.1.0 r)) }
+  spec {𝓤 = 𝓤} 𝓛 κs a = record { ghost = Unit {0}; requires = λ _. fact 𝓤 (Asks a.0.now a.1.0); ensures = λ _ r w. sep 𝓤 (sem 𝓛 (follows (Pr E) (R E) a.0.ghost_name r.ghost_name (with_cell a.0.now a.1.0.ptr))) (fact 𝓤 (Gives a.0.now a.1.0 r)) }
 
 module _ (E : El) {M : Type 1} {𝓤 : Ura M} (𝓛 : Logic 𝓤) (C : Calls 𝓤 𝓛.H) (Λ : Loops 𝓤 𝓛.H) (κ : Lft) (q : Share) (rb ro : ℕ) (γ : GName) (d : (Pr E).Denot) (node : (Np E).Denot) (us0 us1 : List Val) where
   open 𝓛 use {H, A}
@@ -75,7 +75,7 @@ module _ (E : El) {M : Type 1} {𝓤 : Ura M} (𝓛 : Logic 𝓤) (C : Calls �
   Post = (walk_of 𝓛 (ended E) (stayed E) (spec E 𝓛)).post bound
 
   abbrev new : E.row.Denot → (Pr E).Denot
-  new = with_item d node.ptr
+  new = with_cell d node.ptr
 
   module _ (f : Found node.ptr d.cells) (vs : List Val) (b o : ℕ) where
     -- all but the node

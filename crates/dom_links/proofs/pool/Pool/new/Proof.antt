@@ -25,7 +25,7 @@ use denote.Triple.Entry.{on_entry}
 use denote.Triple.Spec.{Meets, triple_of}
 use denote.Triple.Table.{entered, run_framed}
 use denote.Triple.Walked.{says, Stays, walk_of, ends_at, walk_Meets}
-use Rattle.dom_links.proofs.Memory.{El, args, Pr, Mark, mark, mark_made}
+use Rattle.dom_links.proofs.PoolWalkLemmas.{El, args, Pr, Mark, mark, mark_made}
 use Rattle.dom_links.specs.contracts.pool.Pool.new.Key.{name as #self}
 use Rattle.dom_links.proofs.pool.Pool.new.Statement as stated
 use Rattle.dom_links.proofs.pool.Pool.new.Code as code

@@ -42,7 +42,7 @@ use Rattle.std.proofs.Common.{None}
 use Rattle.std_alloc.specs.contracts.room.vacant.Vacant as room-type
 use Rattle.std.proofs.GlobalToken.{dealloc_token-Testable}
 use Rattle.dom_links.specs.{Cells.look, Pointers.IsPlace, contracts.pool.Pool.put_vacant.Key.name as #self}
-use Rattle.dom_links.proofs.Memory.{El, heap, args, R, Pr, Np, word_made, says_three, knows, value_in, tells, fresh}
+use Rattle.dom_links.proofs.PoolWalkLemmas.{El, heap, args, R, Pr, Np, word_made, says_three, knows, value_in, tells, fresh}
 use Rattle.dom_links.proofs.pool.Pool.put_vacant.Statement as stated
 use Rattle.dom_links.proofs.pool.Pool.put_vacant.Code as code
 

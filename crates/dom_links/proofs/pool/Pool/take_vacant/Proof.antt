@@ -40,7 +40,7 @@ use denote.Struct.Tuple.{Tuple}
 use denote.Triple.Walked.{needs, Stays, stay_dropped, stay_ref, walk_of, ends_at, Goes-dropped, Goes-ref, walk_Meets}
 use Rattle.std.proofs.Common.{IsSome, Some}
 use Rattle.dom_links.specs.{Cells.look, Cells.without, Ownership.chunk, Ownership.cell_owns, Ownership.cells_own, contracts.pool.Pool.take_vacant.Key.name as #self}
-use Rattle.dom_links.proofs.{Finding.Found, Finding.found, Memory.El, Memory.heap, Memory.args, Memory.R, Memory.Pr, Memory.Np, Memory.word_had, Memory.says_both, Memory.value_out, Memory.cells_cut}
+use Rattle.dom_links.proofs.{LookLemmas.Found, LookLemmas.found, PoolWalkLemmas.El, PoolWalkLemmas.heap, PoolWalkLemmas.args, PoolWalkLemmas.R, PoolWalkLemmas.Pr, PoolWalkLemmas.Np, PoolWalkLemmas.word_had, PoolWalkLemmas.says_both, PoolWalkLemmas.value_out, PoolWalkLemmas.cells_cut}
 use Rattle.dom_links.proofs.pool.Pool.take_vacant.Statement as stated
 use Rattle.dom_links.proofs.pool.Pool.take_vacant.Code as code
 

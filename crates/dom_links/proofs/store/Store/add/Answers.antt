@@ -1,7 +1,7 @@
 use Rattle.std.proofs.Common.{◌∙◌, Some, refl, ap, arith, tests, rules}
 use Rattle.dom_links.specs.Placed.{slot_of}
 use Rattle.std.proofs.lemmas.List.{length-set}
-use Rattle.dom_links.proofs.{Closing.free_read, Filling.given_slot, Filling.add_closes, Placing.arena_is, Placing.placed_lies, Placing.stays}
+use Rattle.dom_links.proofs.{ArenaAgainLemmas.free_read, FillSlotLemmas.given_slot, FillSlotLemmas.add_closes, PlacedLemmas.arena_is, PlacedLemmas.placed_lies, PlacedLemmas.stays}
 use Rattle.dom_links.proofs.store.Store.add.Goals as goal
 
 pub index_mut-requires : goal.index_mut-requires

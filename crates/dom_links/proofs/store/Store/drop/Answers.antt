@@ -1,6 +1,6 @@
 use Rattle.std.proofs.Common.{◌∙◌, ◌∷◌, [], ◌++◌, sym, ap, arith}
 use Rattle.std.proofs.lemmas.Grind.{common_steps}
-use Rattle.dom_links.proofs.Leaving.{left_none, left_some}
+use Rattle.dom_links.proofs.DropLemmas.{left_none, left_some}
 use Rattle.dom_links.proofs.store.Store.drop.Goals as goal
 
 pub loop-link-preserved-in-Some-ptr : goal.loop-link-preserved-in-Some-ptr

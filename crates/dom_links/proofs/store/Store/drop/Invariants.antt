@@ -1,5 +1,5 @@
 use Rattle.std.proofs.Common.{length}
-use Rattle.dom_links.specs.Standing.{Left}
+use Rattle.dom_links.specs.ArenaMemory.{Left}
 use Rattle.dom_links.proofs.store.Store.drop.Given as goal
 
 abbrev pub invariant-loop-link : goal.invariant-loop-link

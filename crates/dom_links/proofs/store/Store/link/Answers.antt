@@ -1,7 +1,7 @@
 use Rattle.std.proofs.Common.{◌≡◌, Some, refl, sym, ◌∙◌, arith}
 use Rattle.dom_model.specs.Definitions.{entry_at, parent_in}
-use Rattle.dom_links.specs.{Placed.slot_of, Placed.slots_of, Wiring.with_next}
-use Rattle.dom_links.proofs.{Closing.free_read, Relinking.children_fewer, Relinking.new_link, Relinking.new_found, Relinking.link_found, Relinking.kept, Relinking.link_closes, Placing.arena_is, Placing.sits, Placing.placed_node, Placing.placed_lies, Placing.stays, Placing.links_lie, Placing.places_is, Placing.slots_under}
+use Rattle.dom_links.specs.{Placed.slot_of, Placed.slots_of, LinkSteps.with_next}
+use Rattle.dom_links.proofs.{ArenaAgainLemmas.free_read, LinkUnlinkLemmas.children_fewer, LinkUnlinkLemmas.new_link, LinkUnlinkLemmas.new_found, LinkUnlinkLemmas.link_found, LinkUnlinkLemmas.kept, LinkUnlinkLemmas.link_closes, PlacedLemmas.arena_is, PlacedLemmas.sits, PlacedLemmas.placed_node, PlacedLemmas.placed_lies, PlacedLemmas.stays, PlacedLemmas.links_lie, PlacedLemmas.places_is, PlacedLemmas.slots_under}
 use Rattle.dom_links.proofs.store.Store.link.Goals as goal
 
 pub link_before-prev-requires : goal.link_before-prev-requires

@@ -1,5 +1,5 @@
 use Rattle.std.proofs.Common.{[], refl, arith}
-use Rattle.dom_links.proofs.Closing.{closes, stands-none}
+use Rattle.dom_links.proofs.ArenaAgainLemmas.{closes, stands-none}
 use Rattle.dom_links.proofs.store.Store.new.Goals as goal
 
 pub invariant_of-result : goal.invariant_of-result

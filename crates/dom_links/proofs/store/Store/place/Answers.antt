@@ -1,5 +1,5 @@
 use Rattle.std.proofs.Common.{◌∙◌, sym}
-use Rattle.dom_links.proofs.Placing.{within_table, some_at, place_slot, place_placed}
+use Rattle.dom_links.proofs.PlacedLemmas.{within_table, some_at, place_slot, place_placed}
 use Rattle.dom_links.proofs.store.Store.place.Goals as goal
 
 pub link_at-requires : goal.link_at-requires

@@ -1,4 +1,4 @@
-use Rattle.dom_links.proofs.Placing.{placed_node, told}
+use Rattle.dom_links.proofs.PlacedLemmas.{placed_node, told}
 use Rattle.dom_links.proofs.store.Store.prev.Goals as goal
 
 pub get-requires : goal.get-requires

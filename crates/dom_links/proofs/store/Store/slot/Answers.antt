@@ -1,5 +1,5 @@
 use Rattle.std.proofs.Common.{◌∙◌}
-use Rattle.dom_links.proofs.Placing.{placed_node, told}
+use Rattle.dom_links.proofs.PlacedLemmas.{placed_node, told}
 use Rattle.dom_links.proofs.store.Store.slot.Goals as goal
 
 pub get-requires : goal.get-requires

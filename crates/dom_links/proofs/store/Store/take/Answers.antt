@@ -1,7 +1,7 @@
 use Rattle.std.proofs.Common.{◌∙◌, None, refl, sym, arith}
 use Rattle.dom_links.specs.Placed.{slot_of}
 use Rattle.std.proofs.lemmas.List.{length-set, get_or-set_other}
-use Rattle.dom_links.proofs.{Closing.free_read, Relinking.lies_from, Reading.value_read, Filling.take_room, Filling.take_ends, Placing.arena_is, Placing.within_table, Placing.some_at, Placing.placed_lies, Placing.stays}
+use Rattle.dom_links.proofs.{ArenaAgainLemmas.free_read, LinkUnlinkLemmas.lies_from, NodeReadLemmas.value_read, FillSlotLemmas.take_room, FillSlotLemmas.take_ends, PlacedLemmas.arena_is, PlacedLemmas.within_table, PlacedLemmas.some_at, PlacedLemmas.placed_lies, PlacedLemmas.stays}
 use Rattle.dom_links.proofs.store.Store.take.Goals as goal
 
 pub link_at-requires : goal.link_at-requires

@@ -1,6 +1,6 @@
 use Rattle.std.proofs.Common.{refl, sym, ◌∙◌, subst}
-use Rattle.dom_links.specs.{Placed.slot_of, Wiring.with_next, Wiring.with_links}
-use Rattle.dom_links.proofs.{Reading.previous_found, Reading.next_found, Closing.free_read, Relinking.child_from, Relinking.has_parent, Relinking.counted, Relinking.link_found, Relinking.kept, Relinking.Writes, Relinking.unlink_closes, Placing.arena_is, Placing.places_is, Placing.placed_node, Placing.placed_lies, Placing.stays}
+use Rattle.dom_links.specs.{Placed.slot_of, LinkSteps.with_next, LinkSteps.with_links}
+use Rattle.dom_links.proofs.{NodeReadLemmas.previous_found, NodeReadLemmas.next_found, ArenaAgainLemmas.free_read, LinkUnlinkLemmas.child_from, LinkUnlinkLemmas.has_parent, LinkUnlinkLemmas.counted, LinkUnlinkLemmas.link_found, LinkUnlinkLemmas.kept, LinkUnlinkLemmas.Writes, LinkUnlinkLemmas.unlink_closes, PlacedLemmas.arena_is, PlacedLemmas.places_is, PlacedLemmas.placed_node, PlacedLemmas.placed_lies, PlacedLemmas.stays}
 use Rattle.dom_links.proofs.store.Store.unlink.Goals as goal
 
 pub get-node-requires : goal.get-node-requires

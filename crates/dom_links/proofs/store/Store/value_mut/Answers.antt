@@ -1,6 +1,6 @@
 use Rattle.std.proofs.Common.{refl}
 use Rattle.dom_links.specs.Placed.{slot_of}
-use Rattle.dom_links.proofs.{Closing.free_read, Revaluing.revalue_closes, Placing.arena_is, Placing.places_is, Placing.sits, Placing.shown_is, Placing.placed_node, Placing.told}
+use Rattle.dom_links.proofs.{ArenaAgainLemmas.free_read, SetValueLemmas.revalue_closes, PlacedLemmas.arena_is, PlacedLemmas.places_is, PlacedLemmas.sits, PlacedLemmas.shown_is, PlacedLemmas.placed_node, PlacedLemmas.told}
 use Rattle.dom_links.proofs.store.Store.value_mut.Goals as goal
 
 pub get_mut-node-requires : goal.get_mut-node-requires

@@ -2,7 +2,7 @@
 use Rattle.std.proofs.Common.{◌≡◌, ℕ, ◌+◌, ◌-◌, ◌<◌, List, drop, length, remove, ap, sym, ◌∙◌, subst, arith, length-drop}
 use Rattle.std.proofs.Math.Seq.{paste}
 use Rattle.dom_observe.specs.Keys.{Keys}
-use Rattle.dom_observe.proofs.{NodeKeys.drop-moved, NodeKeys.drop-remove, node_keys.NodeKeys.remove.Goals.then-place-count, node_keys.NodeKeys.remove.Goals.else-place-count}
+use Rattle.dom_observe.proofs.{NodeKeysLemmas.drop-moved, NodeKeysLemmas.drop-remove, node_keys.NodeKeys.remove.Goals.then-place-count, node_keys.NodeKeys.remove.Goals.else-place-count}
 use Rattle.dom_observe.proofs.node_keys.NodeKeys.remove.Goals as goal
 
 pub returns : goal.returns

@@ -1,6 +1,6 @@
 use Rattle.std.proofs.Common.{is_some, count_by, ap, sym, ◌∙◌}
 use Rattle.dom_observe.specs.Watchers.{Watchers}
-use Rattle.dom_observe.proofs.QueuesCounted.{queues-counted, places-counted}
+use Rattle.dom_observe.proofs.QueueCountLemmas.{queues-counted, places-counted}
 use Rattle.dom_observe.proofs.observers.Observers.count.Goals as goal
 
 pub returns-clause-count : goal.returns-clause-count

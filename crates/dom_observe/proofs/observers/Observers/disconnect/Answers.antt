@@ -1,8 +1,8 @@
 -- The observer's registrations go from every node, and its queue is emptied.
-use Rattle.dom_observe.proofs.{Awaiting.awaited-emptied, Agreeing.agree-ended, Holding.names-only, Holding.none-ended, Holding.tells-emptied, Holding.same-there, Keeping.on-registered_nodes, Keeping.kept-emptied, Keeping.kept-others, Keeping.found-ended, Keeping.stand-ended, Keyrings.indexed-lost, QueueLists.has-set, Rosters.has-kept, Rosters.lasting-there, Rosters.passing-there, Rosters.lasting-set, Rosters.passing-set, Rosters.queues-set, Sources.sources-ended, Tables.all_imply, Watching.watches-filtered, Watching.watches-taken}
+use Rattle.dom_observe.proofs.{IsAwaitedLemmas.awaited-emptied, AgreeLemmas.agree-ended, NamedNodesLemmas.names-only, NamedNodesLemmas.none-ended, NamedNodesLemmas.tells-emptied, NamedNodesLemmas.same-there, InvariantLemmas.on-registered_nodes, InvariantLemmas.kept-emptied, InvariantLemmas.kept-others, InvariantLemmas.found-ended, InvariantLemmas.stand-ended, ObserverKeysLemmas.indexed-lost, QueueListLemmas.has-set, RosterLemmas.has-kept, RosterLemmas.lasting-there, RosterLemmas.passing-there, RosterLemmas.lasting-set, RosterLemmas.passing-set, RosterLemmas.queues-set, HaveSourcesLemmas.sources-ended, RegistrationTableLemmas.all_imply, WatchesLemmas.watches-filtered, WatchesLemmas.watches-taken}
 use Rattle.std.proofs.Common.{◌≡◌, ℕ, true, List, [], Option, Some, length, filter, ap, sym, ◌∙◌, subst, inr, slice_set}
 use Rattle.dom_model.specs.Definitions.{among, Record, disconnected}
-use Rattle.dom_observe.specs.{declared.registration.Ended.TheVariants.Of, declared.roster.Observer.Observer, Watchers.Watchers, Watchers.Watches, Watchers.on, Registrations.at, Registrations.spares, Kept.registered_nodes, Kept.has_queue, Kept.AllThere, Kept.IsKept, Kept.IsAwaited, Roster.lasting_by, Roster.passing_by, Roster.queues_by, Naming.TellsNone}
+use Rattle.dom_observe.specs.{declared.registration.EndedRegistrations.TheVariants.Of, declared.roster.Observer.Observer, Watchers.Watchers, Watchers.Watches, Watchers.on, Registrations.at, Registrations.spares, Invariant.registered_nodes, Invariant.has_queue, Invariant.AllThere, Invariant.HoldsInvariant, Invariant.IsAwaited, Roster.lasting_by, Roster.passing_by, Roster.queues_by, QueuedNodes.RecordsNameNone}
 use Rattle.std.proofs.lemmas.List.{length-set}
 use Rattle.dom_observe.proofs.observers.Observers.disconnect.Goals as goal
 
@@ -37,7 +37,7 @@ invariant_of-self c =
     let known : AllThere (has_queue (queues_by roster')) a.fleeting.keys =
     subst (λ q. AllThere (has_queue q) a.fleeting.keys) (sym queues)
     (all_imply (λ p. has_queue qs p ≡ true) (λ p. has_queue (slice_set qs o (Some [])) p ≡ true) (λ p there. has-set qs o held_there [] p ∙ there) a.fleeting.keys c.self.invariant.1.known) in (
-      subst (λ q. IsKept c.end_all.new.self q a.pending.keys) (sym queues)
+      subst (λ q. HoldsInvariant c.end_all.new.self q a.pending.keys) (sym queues)
           (kept-emptied c.end_all.new.self qs a.pending.keys kept o held_there),
       indexed-lost u v a.roster roster' a.fleeting.keys o c.self.invariant.1 held_there c.end_all.ensures.left lasting passing a.fleeting.keys (λ p off. inr off) known,
       sources-ended u v (Of o) c.end_all.ensures.left c.self.invariant.2,
@@ -80,10 +80,10 @@ returns-clause-names c =
     let queues : queues_by roster' ≡ slice_set qs o (Some []) = queues-set a.roster o kept' ∙ ap (λ q. slice_set qs o (Some q)) c.take.ensures.emptied in
     let stand = stand-ended u v (Of o) lists lists' c.end_all.ensures.left c.end_all.ensures.swept (has_queue qs) c.self.invariant.0.stand in
     let kept = kept-others a.registrations qs a.pending.keys c.self.invariant.0 c.end_all.new.self c.sound.ensures stand in
-    let emptied = subst (λ q. IsKept c.end_all.new.self q a.pending.keys) (sym queues)
+    let emptied = subst (λ q. HoldsInvariant c.end_all.new.self q a.pending.keys) (sym queues)
     (kept-emptied c.end_all.new.self qs a.pending.keys kept o held_there) in
     names-only a.registrations qs a.pending.keys c.args.self.now c.self.view_is c.end_all.new.self (queues_by roster') a.pending.keys emptied []
-    (λ p _ names tells. (none-ended p u v (Of o) lists lists' c.end_all.ensures.left c.end_all.ensures.swept names, subst (TellsNone p) (sym queues) (tells-emptied p qs o held_there tells)))
+    (λ p _ names tells. (none-ended p u v (Of o) lists lists' c.end_all.ensures.left c.end_all.ensures.swept names, subst (RecordsNameNone p) (sym queues) (tells-emptied p qs o held_there tells)))
 
 pub returns-clause-made : goal.returns-clause-made
 returns-clause-made c =

@@ -2,8 +2,8 @@
 use Rattle.std.proofs.Common.{◌==◌, length, ap, sym, ◌∙◌, subst}
 use Rattle.std.proofs.lemmas.List.{length-map}
 use Rattle.dom_model.specs.Definitions.{registered_on}
-use Rattle.dom_observe.specs.{Once.once, Watchers.Watchers, Watchers.Watches, Registrations.found, Registrations.at, Kept.has_queue, Roster.queues_by}
-use Rattle.dom_observe.proofs.Keeping.{none_listed, on-registered_nodes, none_in}
+use Rattle.dom_observe.specs.{WithoutRepeats.once, Watchers.Watchers, Watchers.Watches, Registrations.found, Registrations.at, Invariant.has_queue, Roster.queues_by}
+use Rattle.dom_observe.proofs.InvariantLemmas.{none_listed, on-registered_nodes, none_in}
 use Rattle.dom_observe.proofs.observers.Observers.is_idle.Goals as goal
 
 pub returns-clause-idle : goal.returns-clause-idle

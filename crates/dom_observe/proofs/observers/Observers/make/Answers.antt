@@ -1,9 +1,9 @@
 -- One more queue, and nothing in it.
-use Rattle.dom_observe.proofs.{Awaiting.awaited-made, Holding.names-only, Holding.names-same, Holding.tells-grown, Keeping.kept-made, Keyrings.indexed-more, Outcomes.on_ok, Outcomes.on_err, Outcomes.both_ok, Outcomes.by_one, Outcomes.by_both, Rosters.length-queues, Watching.watches-made}
+use Rattle.dom_observe.proofs.{IsAwaitedLemmas.awaited-made, NamedNodesLemmas.names-only, NamedNodesLemmas.names-same, NamedNodesLemmas.tells-grown, InvariantLemmas.kept-made, ObserverKeysLemmas.indexed-more, ResultLemmas.on_ok, ResultLemmas.on_err, ResultLemmas.both_ok, ResultLemmas.by_one, ResultLemmas.by_both, RosterLemmas.length-queues, WatchesLemmas.watches-made}
 use Rattle.std.proofs.Common.{List, [], ◌∷◌, ◌++◌, Option, Some, None, length, is_some, ap, sym, ◌∙◌, subst}
 use Rattle.std.proofs.Math.Seq.{get_or-append_seam}
 use Rattle.dom_model.specs.Definitions.{with_observer}
-use Rattle.dom_observe.specs.{declared.roster.Observer.Observer, Watchers.Watchers, Watchers.Watches, Registrations.at, Kept.registered_nodes, Kept.has_queue, Kept.IsKept, Kept.IsIndexed, Kept.IsAwaited, Roster.lasting_by, Roster.passing_by, Roster.queues_by, Held.NamesOnly, Naming.TellsNone}
+use Rattle.dom_observe.specs.{declared.roster.Observer.Observer, Watchers.Watchers, Watchers.Watches, Registrations.at, Invariant.registered_nodes, Invariant.has_queue, Invariant.HoldsInvariant, Invariant.IsIndexed, Invariant.IsAwaited, Roster.lasting_by, Roster.passing_by, Roster.queues_by, ObservedNodes.NamesOnly, QueuedNodes.RecordsNameNone}
 use Rattle.dom_observe.proofs.observers.Observers.make.Goals as goal
 
 pub invariant_of-self : goal.invariant_of-self
@@ -12,14 +12,14 @@ invariant_of-self c =
     let new = c.make.new.self in
     by_both c.make.result c.make.ensures.keys c.make.ensures.queues c.make.ensures.err
     (λ keys queues. (
-      subst (λ qs. IsKept a.registrations qs a.pending.keys) (sym queues) (kept-made a.registrations (queues_by a.roster) a.pending.keys c.self.invariant.0),
+      subst (λ qs. HoldsInvariant a.registrations qs a.pending.keys) (sym queues) (kept-made a.registrations (queues_by a.roster) a.pending.keys c.self.invariant.0),
       indexed-more (at a.registrations) a.fleeting.keys a.roster new c.self.invariant.1 keys queues,
       c.self.invariant.2,
       c.self.invariant.3,
       subst (λ qs. IsAwaited qs a.pending.keys a.untold.keys) (sym queues) (awaited-made (queues_by a.roster) a.pending.keys a.untold.keys c.self.invariant.4),
     ))
     (λ same. (
-      subst (λ r. IsKept a.registrations (queues_by r) a.pending.keys) (sym same) c.self.invariant.0,
+      subst (λ r. HoldsInvariant a.registrations (queues_by r) a.pending.keys) (sym same) c.self.invariant.0,
       subst (λ r. IsIndexed (at a.registrations) (lasting_by r) (passing_by r) a.fleeting.keys (has_queue (queues_by r))) (sym same) c.self.invariant.1,
       c.self.invariant.2,
       c.self.invariant.3,
@@ -64,9 +64,9 @@ returns-clause-names c =
     let seen : List (Option Observer) → Watchers = λ r. record { nodes = registered_nodes a.registrations; queues = queues_by r; pending = a.pending.keys } in
     by_one c.make.result c.make.ensures.queues c.make.ensures.err
     (λ queues.
-    let kept = subst (λ q. IsKept a.registrations q a.pending.keys) (sym queues) (kept-made a.registrations qs a.pending.keys c.self.invariant.0) in
+    let kept = subst (λ q. HoldsInvariant a.registrations q a.pending.keys) (sym queues) (kept-made a.registrations qs a.pending.keys c.self.invariant.0) in
     names-only a.registrations qs a.pending.keys c.args.self.now c.self.view_is a.registrations (queues_by c.make.new.self) a.pending.keys kept []
-    (λ p _ names tells. (names, subst (TellsNone p) (sym queues) (tells-grown p qs tells))))
+    (λ p _ names tells. (names, subst (RecordsNameNone p) (sym queues) (tells-grown p qs tells))))
     (λ same.
     subst (λ r. NamesOnly [] c.args.self.now (seen r)) (sym same)
     (subst (NamesOnly [] c.args.self.now) (sym c.self.view_is) (names-same a.registrations qs a.pending.keys c.self.invariant.0 c.args.self.now c.self.view_is [])))

@@ -1,7 +1,7 @@
 -- Nothing stands under any key.
 use Rattle.std.proofs.Common.{◌≡◌, ℕ, zero, suc, false, [], None, Some, refl, sym, ◌∙◌, subst, tests, rules}
 use Rattle.dom_model.specs.Worlds.World as model
-use Rattle.dom_observe.specs.{Kept.has_queue, Registrations.Registered, Registrations.at, Registrations.AllStand, Registrations.Agree, Roster.queues_by}
+use Rattle.dom_observe.specs.{Invariant.has_queue, Registrations.Registered, Registrations.at, Registrations.AllStand, Registrations.Agree, Roster.queues_by}
 use Rattle.dom_observe.proofs.observers.Observers.new.Goals as goal
 
 abbrev no_options : model.Options

@@ -1,8 +1,8 @@
 -- Each pending observer is told its records; then nobody is pending, and none of those has records.
 use Rattle.std.proofs.Common.{◌≡◌, ℕ, true, if◌then◌else◌, [], length, map, filter, refl, ap, sym, ◌∙◌, subst, is_none}
 use Rattle.dom_model.specs.Definitions.{among, Registration, has_records, told_in}
-use Rattle.dom_observe.specs.{Notifying.waiting_in, Watchers.Watchers, Watchers.Watches, Watchers.on, Watchers.records_at, Naming.TellsNone, Registrations.at, Registrations.passes_for, Registrations.Owned, Kept.registered_nodes, Kept.has_queue, Kept.AllThere, Kept.HaveNone, Kept.IsKept, Roster.first_keys, Roster.second_keys, Roster.lasting_by, Roster.passing_by, Roster.queues_by, declared.registration.Ended.TheVariants.Transient}
-use Rattle.dom_observe.proofs.{Outcomes.at_err, Awaiting.awaited-queues, Awaiting.awaited-notified, Holding.names-only, Holding.none-ended, Holding.same-there, Indexing.indexed-notified, Keeping.on-registered_nodes, Keeping.stand-alike, Keeping.stand-ended, Keeping.found-ended, Keeping.kept_queues, Keyrings.indexed-same, Keyrings.indexed-by, Rosters.has-same, Rosters.length-same, Tables.all_imply, Gathered.waiting-told, Agreeing.agree-ended, Sources.sources-ended, Watching.watches-notified}
+use Rattle.dom_observe.specs.{Notification.waiting_in, Watchers.Watchers, Watchers.Watches, Watchers.on, Watchers.records_at, QueuedNodes.RecordsNameNone, Registrations.at, Registrations.passes_for, Registrations.Owned, Invariant.registered_nodes, Invariant.has_queue, Invariant.AllThere, Invariant.HaveNone, Invariant.HoldsInvariant, Roster.first_keys, Roster.second_keys, Roster.lasting_by, Roster.passing_by, Roster.queues_by, declared.registration.EndedRegistrations.TheVariants.Transient}
+use Rattle.dom_observe.proofs.{ResultLemmas.at_err, IsAwaitedLemmas.awaited-queues, IsAwaitedLemmas.awaited-notified, NamedNodesLemmas.names-only, NamedNodesLemmas.none-ended, NamedNodesLemmas.same-there, IsIndexedLemmas.indexed-notified, InvariantLemmas.on-registered_nodes, InvariantLemmas.stand-alike, InvariantLemmas.stand-ended, InvariantLemmas.found-ended, InvariantLemmas.kept_queues, ObserverKeysLemmas.indexed-same, ObserverKeysLemmas.indexed-by, RosterLemmas.has-same, RosterLemmas.length-same, RegistrationTableLemmas.all_imply, GatherLemmas.waiting-told, AgreeLemmas.agree-ended, HaveSourcesLemmas.sources-ended, WatchesLemmas.watches-notified}
 use Rattle.dom_observe.proofs.observers.Observers.notify.Goals as goal
 
 pub gather-requires : goal.gather-requires
@@ -19,7 +19,7 @@ invariant_of-self-2 c =
     let lists' = c.end_transients.new.self.lists in
     let same : (i : ℕ) → has_queue qs' i ≡ has_queue qs i = λ i. ap (λ q. has_queue q i) c.end_transients.ensures.queues ∙ has-same a.roster c.gather.new.roster c.gather.ensures.keys i in
     let stand = stand-ended u v Transient lists lists' c.end_transients.ensures.left c.end_transients.ensures.swept (has_queue qs) c.self.invariant.0.stand in
-    let kept : IsKept c.end_transients.new.self qs' c.clear.new.self.keys = record {
+    let kept : HoldsInvariant c.end_transients.new.self qs' c.clear.new.self.keys = record {
       are = c.sound.ensures;
       stand = stand-alike v (has_queue qs) (has_queue qs') lists' (λ i there. same i ∙ there) stand;
       there = subst (AllThere (has_queue qs')) (sym c.clear.ensures.empty) tt;
@@ -82,13 +82,13 @@ returns-clause-names c =
     let lists' = c.end_transients.new.self.lists in
     let same : (i : ℕ) → has_queue qs' i ≡ has_queue qs i = λ i. ap (λ q. has_queue q i) c.end_transients.ensures.queues ∙ has-same a.roster c.gather.new.roster c.gather.ensures.keys i in
     let stand = stand-ended u v Transient lists lists' c.end_transients.ensures.left c.end_transients.ensures.swept (has_queue qs) c.self.invariant.0.stand in
-    let kept : IsKept c.end_transients.new.self qs' c.clear.new.self.keys = record {
+    let kept : HoldsInvariant c.end_transients.new.self qs' c.clear.new.self.keys = record {
       are = c.sound.ensures;
       stand = stand-alike v (has_queue qs) (has_queue qs') lists' (λ i there. same i ∙ there) stand;
       there = subst (AllThere (has_queue qs')) (sym c.clear.ensures.empty) tt;
     } in
     names-only a.registrations qs a.pending.keys c.args.self.now c.self.view_is c.end_transients.new.self qs' c.clear.new.self.keys kept []
-    (λ p _ names tells. (none-ended p u v Transient lists lists' c.end_transients.ensures.left c.end_transients.ensures.swept names, subst (TellsNone p) (sym c.end_transients.ensures.queues) (c.gather.ensures.names p tells)))
+    (λ p _ names tells. (none-ended p u v Transient lists lists' c.end_transients.ensures.left c.end_transients.ensures.swept names, subst (RecordsNameNone p) (sym c.end_transients.ensures.queues) (c.gather.ensures.names p tells)))
 
 pub returns-clause-made : goal.returns-clause-made
 returns-clause-made c =

@@ -1,7 +1,7 @@
 -- Where there is no room for the options, nothing has changed.
 use Rattle.std.proofs.Common.{[], ◌∷◌}
 use Rattle.dom_observe.specs.Roster.{queues_by}
-use Rattle.dom_observe.proofs.Holding.{names-same}
+use Rattle.dom_observe.proofs.NamedNodesLemmas.{names-same}
 use Rattle.dom_observe.proofs.observers.Observers.observe.Goals as goal
 
 pub returns-in_err-shared-clause-names : goal.returns-in_err-shared-clause-names

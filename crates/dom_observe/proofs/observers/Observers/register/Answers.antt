@@ -2,8 +2,8 @@
 use Rattle.std.proofs.Common.{◌≡◌, ◌≤◌, ℕ, true, not, List, [], ◌∷◌, ◌++◌, if◌then◌else◌, ◌==◌, map, filter, Option, Some, None, refl, ap, sym, ◌∙◌, subst, arith, filter_map, slice_index_or, slice_set}
 use Rattle.std.specs.List.{list_any}
 use Rattle.dom_model.specs.Definitions.{among, Registration, Record, registered_on, is_registered, is_transient_from, with_options, new_registration, observed}
-use Rattle.dom_observe.specs.{Watchers.Watchers, Watchers.Watches, Watchers.on, Once.once, Registrations.Registered, Registrations.at, Registrations.is_live, Registrations.left_by, Registrations.AllStand, Registrations.HaveSources, Registrations.Agree, Registrations.ByOrigin, Kept.registered_nodes, Kept.has_queue, Kept.IsKept, Kept.IsIndexed, Kept.IsAwaited, Roster.lasting_by, Roster.passing_by, Roster.queues_by, Naming.NamesNone, Naming.TellsNone, declared.registration.Ended.TheVariants.From}
-use Rattle.dom_observe.proofs.{Indexing.from-left, Indexing.indexed-changed, Indexing.indexed-passing_ended, Indexing.indexed-lasting, Agreeing.agree-own, Agreeing.agree-again, Agreeing.agree-lasting, Agreeing.nothing-comes, Once.count-once, OwnKeys.on-lasts, Outcomes.on_ok, Outcomes.by_one, Outcomes.both_err, Outcomes.by_outcome, Sources.sources-ended, Sources.sources-changed, Sources.sources-added, Counting.tally, Counting.count-filter, Tables.live_of_stands, Tables.found-added, Tables.stands-added, Keeping.on-registered_nodes, Keeping.kept-others, Keyrings.indexed-by, Rosters.has-kept, Rosters.within-lasting, Rosters.within-passing, Rosters.lasting-there, Rosters.passing-there, Rosters.lasting-set, Rosters.passing-set, Rosters.lasting-same, Rosters.passing-same, Rosters.queues-same, Holding.names-only, Holding.none-ended, Holding.none-changed, Holding.none-added, Holding.same-queues, Again.any_own, Again.stand-again, Again.found-again, Watching.watches-observed, Watching.watches-observed_again}
+use Rattle.dom_observe.specs.{Watchers.Watchers, Watchers.Watches, Watchers.on, WithoutRepeats.once, Registrations.Registered, Registrations.at, Registrations.is_live, Registrations.unless_ended, Registrations.AllStand, Registrations.HaveSources, Registrations.Agree, Registrations.ByOrigin, Invariant.registered_nodes, Invariant.has_queue, Invariant.HoldsInvariant, Invariant.IsIndexed, Invariant.IsAwaited, Roster.lasting_by, Roster.passing_by, Roster.queues_by, QueuedNodes.NamesNone, QueuedNodes.RecordsNameNone, declared.registration.EndedRegistrations.TheVariants.From}
+use Rattle.dom_observe.proofs.{IsIndexedLemmas.from-left, IsIndexedLemmas.indexed-changed, IsIndexedLemmas.indexed-passing_ended, IsIndexedLemmas.indexed-lasting, AgreeLemmas.agree-own, AgreeLemmas.agree-again, AgreeLemmas.agree-lasting, AgreeLemmas.nothing-comes, OnceLemmas.count-once, OwnKeyLemmas.on-lasts, ResultLemmas.on_ok, ResultLemmas.by_one, ResultLemmas.both_err, ResultLemmas.by_outcome, HaveSourcesLemmas.sources-ended, HaveSourcesLemmas.sources-changed, HaveSourcesLemmas.sources-added, TallyLemmas.tally, TallyLemmas.count-filter, RegistrationTableLemmas.live_of_stands, RegistrationTableLemmas.found-added, RegistrationTableLemmas.stands-added, InvariantLemmas.on-registered_nodes, InvariantLemmas.kept-others, ObserverKeysLemmas.indexed-by, RosterLemmas.has-kept, RosterLemmas.within-lasting, RosterLemmas.within-passing, RosterLemmas.lasting-there, RosterLemmas.passing-there, RosterLemmas.lasting-set, RosterLemmas.passing-set, RosterLemmas.lasting-same, RosterLemmas.passing-same, RosterLemmas.queues-same, NamedNodesLemmas.names-only, NamedNodesLemmas.none-ended, NamedNodesLemmas.none-changed, NamedNodesLemmas.none-added, NamedNodesLemmas.same-queues, ReobserveLemmas.any_own, ReobserveLemmas.stand-again, ReobserveLemmas.found-again, WatchesLemmas.watches-observed, WatchesLemmas.watches-observed_again}
 use Rattle.dom_observe.proofs.observers.Observers.register.Goals as goal
 
 pub get-requires : goal.get-requires
@@ -37,8 +37,8 @@ pub invariant_of-self : goal.invariant_of-self
 invariant_of-self c =
     let a = c.self.inside in
     let had = passing-there a.roster c.args.observer c.get_mut-kept.result.now c.get_mut-kept.ensures.value in
-    let ended : (k : ℕ) → at c.end_from.new.self k ≡ (if among k (slice_index_or (passing_by a.roster) c.args.observer []) then left_by (From c.args.observer c.args.node) (at a.registrations k) else at a.registrations k) = λ k.
-    c.end_from.ensures.left k ∙ ap (λ ks. if among k ks then left_by (From c.args.observer c.args.node) (at a.registrations k) else at a.registrations k) (sym had) in
+    let ended : (k : ℕ) → at c.end_from.new.self k ≡ (if among k (slice_index_or (passing_by a.roster) c.args.observer []) then unless_ended (From c.args.observer c.args.node) (at a.registrations k) else at a.registrations k) = λ k.
+    c.end_from.ensures.left k ∙ ap (λ ks. if among k ks then unless_ended (From c.args.observer c.args.node) (at a.registrations k) else at a.registrations k) (sym had) in
     let roster' = slice_set a.roster c.args.observer (Some (record c.get_mut-kept.result.now { passing = c.end_from.new.keys })) in
     let same : queues_by roster' ≡ queues_by a.roster = queues-same a.roster c.args.observer c.get_mut-kept.result.now c.get_mut-kept.ensures.value (record c.get_mut-kept.result.now { passing = c.end_from.new.keys }) refl in
     let u = at a.registrations in
@@ -56,7 +56,7 @@ invariant_of-self c =
     let passing : passing_by roster' ≡ slice_set (passing_by a.roster) o (filter (is_live v) (slice_index_or (passing_by a.roster) o [])) =
     passing-set a.roster o (record c.get_mut-kept.result.now { passing = c.end_from.new.keys }) ∙ ap (slice_set (passing_by a.roster) o) (c.end_from.ensures.keys ∙ ap (filter (is_live v)) (sym had)) in
     let lasting = lasting-same a.roster o c.get_mut-kept.result.now c.get_mut-kept.ensures.value (record c.get_mut-kept.result.now { passing = c.end_from.new.keys }) refl in (
-      subst (λ qs. IsKept c.set_options.new.self qs a.pending.keys) (sym same)
+      subst (λ qs. HoldsInvariant c.set_options.new.self qs a.pending.keys) (sym same)
           (kept-others a.registrations (queues_by a.roster) a.pending.keys c.self.invariant.0 c.set_options.new.self c.sound.ensures stand),
       indexed-by w a.fleeting.keys roster' (lasting_by a.roster) (slice_set (passing_by a.roster) o (filter (is_live v) (slice_index_or (passing_by a.roster) o []))) there lasting passing (λ i yet. ap (λ qs. has_queue qs i) same ∙ yet)
           (indexed-changed v w (lasting_by a.roster) (slice_set (passing_by a.roster) o (filter (is_live v) (slice_index_or (passing_by a.roster) o []))) a.fleeting.keys there c.in-Some.key c.args.options.value c.set_options.ensures.changed c.set_options.ensures.others
@@ -70,8 +70,8 @@ pub returns-in-Some-clause-ok : goal.returns-in-Some-clause-ok
 returns-in-Some-clause-ok c = λ x w.
     let a = c.self.inside in
     let had = passing-there a.roster c.args.observer c.get_mut-kept.result.now c.get_mut-kept.ensures.value in
-    let ended : (k : ℕ) → at c.end_from.new.self k ≡ (if among k (slice_index_or (passing_by a.roster) c.args.observer []) then left_by (From c.args.observer c.args.node) (at a.registrations k) else at a.registrations k) = λ k.
-    c.end_from.ensures.left k ∙ ap (λ ks. if among k ks then left_by (From c.args.observer c.args.node) (at a.registrations k) else at a.registrations k) (sym had) in
+    let ended : (k : ℕ) → at c.end_from.new.self k ≡ (if among k (slice_index_or (passing_by a.roster) c.args.observer []) then unless_ended (From c.args.observer c.args.node) (at a.registrations k) else at a.registrations k) = λ k.
+    c.end_from.ensures.left k ∙ ap (λ ks. if among k ks then unless_ended (From c.args.observer c.args.node) (at a.registrations k) else at a.registrations k) (sym had) in
     let roster' = slice_set a.roster c.args.observer (Some (record c.get_mut-kept.result.now { passing = c.end_from.new.keys })) in
     let same : queues_by roster' ≡ queues_by a.roster = queues-same a.roster c.args.observer c.get_mut-kept.result.now c.get_mut-kept.ensures.value (record c.get_mut-kept.result.now { passing = c.end_from.new.keys }) refl in
     let i = c.args.observer in
@@ -122,7 +122,7 @@ invariant_of-self-in-None c =
     (λ same_one own.
     subst (λ r. IsIndexed (at r) (lasting_by roster') (passing_by a.roster) a.fleeting.keys there) (sym same_one)
     (subst (λ l. IsIndexed u l (passing_by a.roster) a.fleeting.keys there) (sym (lasting-same a.roster o kept c.get_mut-kept-in-None.ensures.value kept' own)) c.self.invariant.1)) in (
-      subst (λ qs. IsKept c.add-added.new.self qs a.pending.keys) (sym same)
+      subst (λ qs. HoldsInvariant c.add-added.new.self qs a.pending.keys) (sym same)
           (kept-others a.registrations (queues_by a.roster) a.pending.keys c.self.invariant.0 c.add-added.new.self c.sound-in-None.ensures stand),
       indexed-by (at c.add-added.new.self) a.fleeting.keys roster' (lasting_by roster') (passing_by a.roster) there refl passing (λ i yet. ap (λ qs. has_queue qs i) same ∙ yet) indexed,
       by_one c.add-added.result c.add-added.ensures.ok c.add-added.ensures.err
@@ -162,8 +162,8 @@ returns-in-Some-clause-names c =
     let a = c.self.inside in
     let qs = queues_by a.roster in
     let had = passing-there a.roster c.args.observer c.get_mut-kept.result.now c.get_mut-kept.ensures.value in
-    let ended : (k : ℕ) → at c.end_from.new.self k ≡ (if among k (slice_index_or (passing_by a.roster) c.args.observer []) then left_by (From c.args.observer c.args.node) (at a.registrations k) else at a.registrations k) = λ k.
-    c.end_from.ensures.left k ∙ ap (λ ks. if among k ks then left_by (From c.args.observer c.args.node) (at a.registrations k) else at a.registrations k) (sym had) in
+    let ended : (k : ℕ) → at c.end_from.new.self k ≡ (if among k (slice_index_or (passing_by a.roster) c.args.observer []) then unless_ended (From c.args.observer c.args.node) (at a.registrations k) else at a.registrations k) = λ k.
+    c.end_from.ensures.left k ∙ ap (λ ks. if among k ks then unless_ended (From c.args.observer c.args.node) (at a.registrations k) else at a.registrations k) (sym had) in
     let roster' = slice_set a.roster c.args.observer (Some (record c.get_mut-kept.result.now { passing = c.end_from.new.keys })) in
     let same : queues_by roster' ≡ queues_by a.roster = queues-same a.roster c.args.observer c.get_mut-kept.result.now c.get_mut-kept.ensures.value (record c.get_mut-kept.result.now { passing = c.end_from.new.keys }) refl in
     let lists = a.registrations.lists in
@@ -173,13 +173,13 @@ returns-in-Some-clause-names c =
     let stand = stand-again (at a.registrations) (at c.end_from.new.self) (at c.set_options.new.self) lists lists' c.args.observer c.args.node c.in-Some.key c.args.options.value
     (from-left (at a.registrations) (at c.end_from.new.self) (lasting_by a.roster) (passing_by a.roster) a.fleeting.keys (has_queue (queues_by a.roster)) c.args.observer c.args.node c.self.invariant.1 ended) swept found_key c.set_options.ensures.changed c.set_options.ensures.others (has_queue qs) c.self.invariant.0.stand in
     let kept =
-    subst (λ q. IsKept c.set_options.new.self q a.pending.keys) (sym same)
+    subst (λ q. HoldsInvariant c.set_options.new.self q a.pending.keys) (sym same)
     (kept-others a.registrations qs a.pending.keys c.self.invariant.0 c.set_options.new.self c.sound.ensures stand) in
     names-only a.registrations qs a.pending.keys c.args.self.now c.self.view_is c.set_options.new.self (queues_by roster') a.pending.keys kept (c.args.node ∷ [])
     (λ p _ names tells. (
       none-changed p (at c.end_from.new.self) (at c.set_options.new.self) c.in-Some.key c.args.options.value lists' c.set_options.ensures.changed c.set_options.ensures.others
           (none-ended p (at a.registrations) (at c.end_from.new.self) (From c.args.observer c.args.node) lists lists' (from-left (at a.registrations) (at c.end_from.new.self) (lasting_by a.roster) (passing_by a.roster) a.fleeting.keys (has_queue (queues_by a.roster)) c.args.observer c.args.node c.self.invariant.1 ended) swept names),
-      subst (TellsNone p) (sym same) tells,
+      subst (RecordsNameNone p) (sym same) tells,
     ))
 
 pub returns-in-None-clause-names : goal.returns-in-None-clause-names
@@ -201,14 +201,14 @@ returns-in-None-clause-names c =
     (λ added. stands-added u lists _ v lists' added there c.self.invariant.0.stand held_there)
     (λ same_one. subst (λ r. AllStand (at r) there r.lists) (sym same_one) c.self.invariant.0.stand) in
     let kept =
-    subst (λ q. IsKept c.add-added.new.self q a.pending.keys) (sym same)
+    subst (λ q. HoldsInvariant c.add-added.new.self q a.pending.keys) (sym same)
     (kept-others a.registrations qs a.pending.keys c.self.invariant.0 c.add-added.new.self c.sound-in-None.ensures stand) in
     names-only a.registrations qs a.pending.keys c.args.self.now c.self.view_is c.add-added.new.self (queues_by roster') a.pending.keys kept (c.args.node ∷ [])
     (λ p nameless names tells. (
       by_one c.add-added.result c.add-added.ensures.ok c.add-added.ensures.err
           (λ added. none-added p u lists (new_registration c.args.observer c.args.node c.args.options.value) v lists' added live nameless names)
           (λ same_one. subst (λ r. NamesNone p (at r) r.lists) (sym same_one) names),
-      subst (TellsNone p) (sym same) tells,
+      subst (RecordsNameNone p) (sym same) tells,
     ))
 
 pub returns-in-Some-clause-made : goal.returns-in-Some-clause-made

@@ -1,6 +1,6 @@
 use Rattle.std.proofs.Common.{ap, sym, ◌∙◌, subst}
 use Rattle.dom_observe.specs.Watchers.{Watchers, Watches, registrations_in}
-use Rattle.dom_observe.proofs.{Registered.registrations-counted, Summed.registrations-summed}
+use Rattle.dom_observe.proofs.{RegistrationCountLemmas.registrations-counted, RegistrationSumLemmas.registrations-summed}
 use Rattle.dom_observe.proofs.observers.Observers.registrations.Goals as goal
 
 pub returns-clause-watched : goal.returns-clause-watched

@@ -1,8 +1,8 @@
 -- The observer's registrations go from every node, it is not pending any more, and has no queue.
-use Rattle.dom_observe.proofs.{Awaiting.awaited-released, Agreeing.agree-ended, Holding.names-only, Holding.none-ended, Holding.tells-released, Keeping.on-registered_nodes, Keeping.found-ended, Keyrings.indexed-lost, QueueLists.queue_within, Releasing.taken-out, Releasing.out-taken, Releasing.there-taken, Releasing.others-there, Releasing.kept-released, Rosters.has-kept, Rosters.lasting-there, Rosters.passing-there, Rosters.length-queues, Rosters.lasting-gone, Rosters.passing-gone, Rosters.queues-gone, Sources.sources-ended, Watching.watches-filtered, Watching.watches-released}
+use Rattle.dom_observe.proofs.{IsAwaitedLemmas.awaited-released, AgreeLemmas.agree-ended, NamedNodesLemmas.names-only, NamedNodesLemmas.none-ended, NamedNodesLemmas.tells-released, InvariantLemmas.on-registered_nodes, InvariantLemmas.found-ended, ObserverKeysLemmas.indexed-lost, QueueListLemmas.queue_within, ReleaseLemmas.taken-out, ReleaseLemmas.out-taken, ReleaseLemmas.there-taken, ReleaseLemmas.others-there, ReleaseLemmas.kept-released, RosterLemmas.has-kept, RosterLemmas.lasting-there, RosterLemmas.passing-there, RosterLemmas.length-queues, RosterLemmas.lasting-gone, RosterLemmas.passing-gone, RosterLemmas.queues-gone, HaveSourcesLemmas.sources-ended, WatchesLemmas.watches-filtered, WatchesLemmas.watches-released}
 use Rattle.std.proofs.Common.{◌≡◌, ℕ, true, List, [], Option, Some, None, filter, is_some, ap, sym, ◌∙◌, subst, arith, nat_eq, slice_set}
 use Rattle.dom_model.specs.Definitions.{among, left_out, Record, released_observer}
-use Rattle.dom_observe.specs.{declared.registration.Ended.TheVariants.Of, Watchers.Watchers, Watchers.Watches, Watchers.on, Registrations.at, Registrations.spares, Kept.registered_nodes, Kept.has_queue, Kept.AllThere, Kept.IsKept, Kept.IsAwaited, Roster.lasting_by, Roster.passing_by, Roster.queues_by, Naming.TellsNone}
+use Rattle.dom_observe.specs.{declared.registration.EndedRegistrations.TheVariants.Of, Watchers.Watchers, Watchers.Watches, Watchers.on, Registrations.at, Registrations.spares, Invariant.registered_nodes, Invariant.has_queue, Invariant.AllThere, Invariant.HoldsInvariant, Invariant.IsAwaited, Roster.lasting_by, Roster.passing_by, Roster.queues_by, QueuedNodes.RecordsNameNone}
 use Rattle.std.specs.List.{list_any}
 use Rattle.std.proofs.lemmas.List.{get_or-set_same, set-set}
 use Rattle.dom_observe.proofs.observers.Observers.release.Goals as goal
@@ -43,8 +43,8 @@ invariant_of-self c =
     let known : AllThere (has_queue (queues_by new)) c.swap_remove.new.self.keys =
     subst (λ q. AllThere (has_queue q) c.swap_remove.new.self.keys) (sym queues)
     (there-taken o a.fleeting.keys c.swap_remove.new.self.keys taken (has_queue qs) (has_queue (slice_set qs o None)) (others-there qs o) c.self.invariant.1.known) in (
-      subst (λ ps. IsKept c.end_all.new.self (queues_by new) ps) (sym pending)
-          (subst (λ q. IsKept c.end_all.new.self q (left_out o a.pending.keys)) (sym queues)
+      subst (λ ps. HoldsInvariant c.end_all.new.self (queues_by new) ps) (sym pending)
+          (subst (λ q. HoldsInvariant c.end_all.new.self q (left_out o a.pending.keys)) (sym queues)
           (kept-released a.registrations qs a.pending.keys c.self.invariant.0 c.end_all.new.self o c.end_all.ensures.left c.end_all.ensures.swept c.sound.ensures)),
       indexed-lost u v a.roster new a.fleeting.keys o c.self.invariant.1 held_there c.end_all.ensures.left (ap lasting_by gone ∙ lasting-gone a.roster o) (ap passing_by gone ∙ passing-gone a.roster o)
           c.swap_remove.new.self.keys (out-taken o a.fleeting.keys c.swap_remove.new.self.keys taken) known,
@@ -91,11 +91,11 @@ returns-clause-names c =
     let pending : c.shift_remove.new.self.keys ≡ left_out o a.pending.keys =
     c.shift_remove.ensures.keys ∙ taken-out o a.pending.keys (ap (list_any (nat_eq o)) (sym c.shift_remove.ensures.keys) ∙ c.shift_remove.ensures.updates.1) in
     let kept =
-    subst (λ ps. IsKept c.end_all.new.self (queues_by new) ps) (sym pending)
-    (subst (λ q. IsKept c.end_all.new.self q (left_out o a.pending.keys)) (sym queues)
+    subst (λ ps. HoldsInvariant c.end_all.new.self (queues_by new) ps) (sym pending)
+    (subst (λ q. HoldsInvariant c.end_all.new.self q (left_out o a.pending.keys)) (sym queues)
     (kept-released a.registrations qs a.pending.keys c.self.invariant.0 c.end_all.new.self o c.end_all.ensures.left c.end_all.ensures.swept c.sound.ensures)) in
     names-only a.registrations qs a.pending.keys c.args.self.now c.self.view_is c.end_all.new.self (queues_by new) c.shift_remove.new.self.keys kept []
-    (λ p _ names tells. (none-ended p u v (Of o) lists lists' c.end_all.ensures.left c.end_all.ensures.swept names, subst (TellsNone p) (sym queues) (tells-released p qs o tells)))
+    (λ p _ names tells. (none-ended p u v (Of o) lists lists' c.end_all.ensures.left c.end_all.ensures.swept names, subst (RecordsNameNone p) (sym queues) (tells-released p qs o tells)))
 
 pub returns-clause-made : goal.returns-clause-made
 returns-clause-made c =

@@ -1,10 +1,10 @@
 -- Transient registrations are made, and then each observer that the mutation interests gets its record.
-use Rattle.dom_observe.proofs.{Awaiting.awaited-queued, Holding.names-only, Holding.names-same, Holding.same-queues, Holding.same-there, Hearing.all_last-there, Keeping.on-registered_nodes, Keyrings.indexed-by, Keyrings.indexed-same, Outcomes.on_both, Outcomes.at_err, Queued.standing_on-none, Queued.standing_stands, Queued.kept-queued, Queued.told-queued, Queued.pended-queued, Quiet.not_nothing, Quiet.none-stand, Quiet.none-standing, Refusing.front-same, Refusing.gets-none, Refusing.removed-same, Refusing.partly-removed, Releasing.each-there, Removals.listeners-alike, Removals.stood, Removals.standing-live, Removals.standing-unnamed, Removals.kept-left, Removals.standing-left, Removals.watches-none_above, Rosters.has-same, Rosters.length-same, Transients.transients-of_all, Watching.watches-transients, Watching.watches-noted}
+use Rattle.dom_observe.proofs.{IsAwaitedLemmas.awaited-queued, NamedNodesLemmas.names-only, NamedNodesLemmas.names-same, NamedNodesLemmas.same-queues, NamedNodesLemmas.same-there, InterestedLemmas.all_last-there, InvariantLemmas.on-registered_nodes, ObserverKeysLemmas.indexed-by, ObserverKeysLemmas.indexed-same, ResultLemmas.on_both, ResultLemmas.at_err, QueueRecordLemmas.standing_on-none, QueueRecordLemmas.standing_stands, QueueRecordLemmas.kept-queued, QueueRecordLemmas.told-queued, QueueRecordLemmas.pended-queued, NoneInterestedLemmas.not_nothing, NoneInterestedLemmas.none-stand, NoneInterestedLemmas.none-standing, IsFrontLemmas.front-same, IsFrontLemmas.gets-none, IsFrontLemmas.removed-same, IsFrontLemmas.partly-removed, ReleaseLemmas.each-there, RemovedLemmas.listeners-alike, RemovedLemmas.stood, RemovedLemmas.standing-live, RemovedLemmas.standing-unnamed, RemovedLemmas.kept-left, RemovedLemmas.standing-left, RemovedLemmas.watches-none_above, RosterLemmas.has-same, RosterLemmas.length-same, TransientLemmas.transients-of_all, WatchesLemmas.watches-transients, WatchesLemmas.watches-noted}
 use Rattle.std.proofs.Common.{◌≡◌, ℕ, ◌==◌, true, List, [], ◌∷◌, ◌++◌, length, refl, ap, sym, ◌∙◌, subst, arith, flat_map, filter_map, option_to_list}
 use Rattle.std.proofs.lemmas.Bool.{true≢false, or_parts}
 use Rattle.dom_model.specs.Definitions.{ancestors, Mutation, standing_on, registered_on, with_transients, observers_of, record_for, among, with_all_last}
 use Rattle.dom_model.proofs.PlainLists.Numbers.{same_or, same, apart}
-use Rattle.dom_observe.specs.{Once.once, Watchers.Watchers, Watchers.Watches, Watchers.records_at, Watchers.on, Registrations.at, Kept.registered_nodes, Kept.has_queue, Kept.IsAwaited, Roster.lasting_by, Roster.passing_by, Roster.queues_by, Naming.TellsNone, Held.nodes_of_mutation, Refused.GetsAtMostOne, Telling.listeners}
+use Rattle.dom_observe.specs.{WithoutRepeats.once, Watchers.Watchers, Watchers.Watches, Watchers.records_at, Watchers.on, Registrations.at, Invariant.registered_nodes, Invariant.has_queue, Invariant.IsAwaited, Roster.lasting_by, Roster.passing_by, Roster.queues_by, QueuedNodes.RecordsNameNone, ObservedNodes.nodes_of_mutation, OutOfMemory.GetsAtMostOne, Interested.listeners}
 use Rattle.dom_observe.proofs.observers.Observers.removed.Goals as goal
 
 none : {A : Type 0} (xs : List A) → length xs ≡ 0 → xs ≡ []
@@ -103,7 +103,7 @@ returns-in_err-add_transients-clause-names g c =
     names-only a.registrations qs a.pending.keys c.args.self.now c.self.view_is b.registrations (queues_by b.roster) a.pending.keys kept (c.args.node ∷ nodes_of_mutation c.args.mutation.now)
     (λ p nameless names tells. (
       s.names p (or_parts (p c.args.node) _ nameless).0 (standing-unnamed (at a.registrations) lists _ c.as_slice.result.now is p names) names,
-      subst (TellsNone p) (sym s.queues) tells,
+      subst (RecordsNameNone p) (sym s.queues) tells,
     ))
 
 pub returns-in_err-add_transients-clause-made : goal.returns-in_err-add_transients-clause-made
@@ -123,8 +123,8 @@ returns-in_err-add_transients-clause-quiet g c unnamed =
 
 -- the record
 
-pub tell-requires : goal.tell-requires
-tell-requires g c =
+pub queue_for_interested-requires : goal.queue_for_interested-requires
+queue_for_interested-requires g c =
     let a = c.self.inside in
     let b = c.add_transients.new in
     let qs = queues_by a.roster in
@@ -135,7 +135,7 @@ pub invariant_of-self-2 : goal.invariant_of-self-2
 invariant_of-self-2 g c =
     let a = c.self.inside in
     let b = c.add_transients.new in
-    let d = c.tell.new in
+    let d = c.queue_for_interested.new in
     let qs = queues_by a.roster in
     let qs' = queues_by b.roster in
     let there = has_queue qs in
@@ -146,20 +146,20 @@ invariant_of-self-2 g c =
     (λ i held_there. ap (λ q. has_queue q i) s.queues ∙ held_there) (s.indexed (lasting_by a.roster) there bounded c.self.invariant.1) in
     let bounded' = stood (at a.registrations) (at b.registrations) qs qs' c.as_slice.result.now c.as_slice-2.result.now (c.as_slice-2.ensures.value ∙ sym c.as_slice.ensures.value) s.queues s.stay bounded in (
       kept-queued b.registrations qs' a.pending.keys kept (queues_by d.roster) d.pending.keys
-          (has-same b.roster d.roster c.tell.ensures.keys)
-          (c.tell.ensures.there (has_queue qs') bounded' kept.there),
-      indexed-same (at b.registrations) b.fleeting.keys b.roster d.roster indexed c.tell.ensures.keys,
+          (has-same b.roster d.roster c.queue_for_interested.ensures.keys)
+          (c.queue_for_interested.ensures.there (has_queue qs') bounded' kept.there),
+      indexed-same (at b.registrations) b.fleeting.keys b.roster d.roster indexed c.queue_for_interested.ensures.keys,
       s.sources c.self.invariant.2,
       s.agree c.self.invariant.3,
-      awaited-queued qs' a.pending.keys a.untold.keys (subst (λ q. IsAwaited q a.pending.keys a.untold.keys) (sym s.queues) c.self.invariant.4) (queues_by d.roster) d.pending.keys (has-same b.roster d.roster c.tell.ensures.keys) c.tell.ensures.stay c.tell.ensures.others,
+      awaited-queued qs' a.pending.keys a.untold.keys (subst (λ q. IsAwaited q a.pending.keys a.untold.keys) (sym s.queues) c.self.invariant.4) (queues_by d.roster) d.pending.keys (has-same b.roster d.roster c.queue_for_interested.ensures.keys) c.queue_for_interested.ensures.stay c.queue_for_interested.ensures.others,
     )
 
 pub returns-clause-removed : goal.returns-clause-removed
 returns-clause-removed g c =
-    on_both c.tell.result c.tell.ensures.told c.tell.ensures.pending (λ told pends x w.
+    on_both c.queue_for_interested.result c.queue_for_interested.ensures.told c.queue_for_interested.ensures.pending (λ told pends x w.
     let a = c.self.inside in
     let b = c.add_transients.new in
-    let d = c.tell.new in
+    let d = c.queue_for_interested.new in
     let m = c.args.mutation.now in
     let node = c.args.node in
     let ns = ancestors m.target c.args.tree.now.forest in
@@ -195,18 +195,18 @@ returns-clause-removed g c =
     let bounded' = stood u v qs qs' keys keys' same_keys s.queues s.stay bounded in
     let kept = kept-left a.registrations qs a.pending.keys c.self.invariant.0 b.registrations qs' s.queues s.sound (s.all_stand there bounded c.self.invariant.0.stand) in
     watches-noted mid y left stood_as (queues_by d.roster) d.pending.keys
-    (length-same b.roster d.roster c.tell.ensures.keys)
-    (has-same b.roster d.roster c.tell.ensures.keys)
+    (length-same b.roster d.roster c.queue_for_interested.ensures.keys)
+    (has-same b.roster d.roster c.queue_for_interested.ensures.keys)
     (λ p. told p ∙ ap (λ rs. records_at qs' p ++ rs) (told-queued u lists x.registrations has m ns keys is ls heard p ∙ ap (λ k. option_to_list (record_for p k)) alike))
     pended
-    (λ i k. each-there (has_queue qs') d.pending.keys (c.tell.ensures.there (has_queue qs') bounded' kept.there) i
+    (λ i k. each-there (has_queue qs') d.pending.keys (c.queue_for_interested.ensures.there (has_queue qs') bounded' kept.there) i
     (ap (among i) pended ∙ all_last-there i a.pending.keys (observers_of stood_as) k)))
 
 pub returns-clause-names : goal.returns-clause-names
 returns-clause-names g c =
     let a = c.self.inside in
     let b = c.add_transients.new in
-    let d = c.tell.new in
+    let d = c.queue_for_interested.new in
     let qs = queues_by a.roster in
     let qs' = queues_by b.roster in
     let there = has_queue qs in
@@ -217,21 +217,21 @@ returns-clause-names g c =
     let kept = kept-left a.registrations qs a.pending.keys c.self.invariant.0 b.registrations qs' s.queues s.sound (s.all_stand there bounded c.self.invariant.0.stand) in
     let bounded' = stood (at a.registrations) (at b.registrations) qs qs' c.as_slice.result.now c.as_slice-2.result.now (c.as_slice-2.ensures.value ∙ sym c.as_slice.ensures.value) s.queues s.stay bounded in
     let kept' = kept-queued b.registrations qs' a.pending.keys kept (queues_by d.roster) d.pending.keys
-    (has-same b.roster d.roster c.tell.ensures.keys)
-    (c.tell.ensures.there (has_queue qs') bounded' kept.there) in
+    (has-same b.roster d.roster c.queue_for_interested.ensures.keys)
+    (c.queue_for_interested.ensures.there (has_queue qs') bounded' kept.there) in
     names-only a.registrations qs a.pending.keys c.args.self.now c.self.view_is b.registrations (queues_by d.roster) d.pending.keys kept' (c.args.node ∷ nodes_of_mutation c.args.mutation.now)
     (λ p nameless names tells. (
       s.names p (or_parts (p c.args.node) _ nameless).0 (standing-unnamed (at a.registrations) lists _ c.as_slice.result.now is p names) names,
-      c.tell.ensures.names p (or_parts (p c.args.node) _ nameless).1 (subst (TellsNone p) (sym s.queues) tells),
+      c.queue_for_interested.ensures.names p (or_parts (p c.args.node) _ nameless).1 (subst (RecordsNameNone p) (sym s.queues) tells),
     ))
 
 pub returns-clause-made : goal.returns-clause-made
 returns-clause-made g c =
     let a = c.self.inside in
     let b = c.add_transients.new in
-    let d = c.tell.new in
+    let d = c.queue_for_interested.new in
     let new : Watchers = record { nodes = registered_nodes b.registrations; queues = queues_by d.roster; pending = d.pending.keys } in
-    same-there c.args.self.now new (queues_by b.roster) (c.add_transients.ensures.queues ∙ ap (λ (o : Watchers). o.queues) c.self.view_is) (length-same b.roster d.roster c.tell.ensures.keys) (has-same b.roster d.roster c.tell.ensures.keys)
+    same-there c.args.self.now new (queues_by b.roster) (c.add_transients.ensures.queues ∙ ap (λ (o : Watchers). o.queues) c.self.view_is) (length-same b.roster d.roster c.queue_for_interested.ensures.keys) (has-same b.roster d.roster c.queue_for_interested.ensures.keys)
 
 pub returns-clause-quiet : goal.returns-clause-quiet
 returns-clause-quiet g c unnamed =
@@ -262,10 +262,10 @@ pub returns-clause-partly : goal.returns-clause-partly
 returns-clause-partly g c =
     let a = c.self.inside in
     let b = c.add_transients.new in
-    let d = c.tell.new in
+    let d = c.queue_for_interested.new in
     let m = c.args.mutation.now in
     let left =
     partly-removed a.registrations (queues_by a.roster) a.pending.keys c.args.self.now c.self.view_is b.registrations c.args.node
-    c.add_transients.ensures.front c.add_transients.ensures.elsewhere m (queues_by d.roster) d.pending.keys c.tell.ensures.front
-    (λ i. subst (λ q. GetsAtMostOne m (records_at q i) (records_at (queues_by d.roster) i)) c.add_transients.ensures.queues (c.tell.ensures.each i)) in
-    at_err c.tell.result left
+    c.add_transients.ensures.front c.add_transients.ensures.elsewhere m (queues_by d.roster) d.pending.keys c.queue_for_interested.ensures.front
+    (λ i. subst (λ q. GetsAtMostOne m (records_at q i) (records_at (queues_by d.roster) i)) c.add_transients.ensures.queues (c.queue_for_interested.ensures.each i)) in
+    at_err c.queue_for_interested.result left

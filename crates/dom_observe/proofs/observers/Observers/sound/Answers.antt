@@ -1,10 +1,10 @@
 -- What is kept, seen from outside.
 use Rattle.std.proofs.Common.{subst}
-use Rattle.dom_observe.specs.{Roster.queues_by, Sound.IsSound}
-use Rattle.dom_observe.proofs.Sounding.{seen-sound}
+use Rattle.dom_observe.specs.{Roster.queues_by, Sound.AreSoundWatchers}
+use Rattle.dom_observe.proofs.IsSoundLemmas.{seen-sound}
 use Rattle.dom_observe.proofs.observers.Observers.sound.Goals as goal
 
 pub returns : goal.returns
 returns c =
     let a = c.self.inside in
-    subst IsSound c.self.view_is (seen-sound a.registrations (queues_by a.roster) a.pending.keys c.self.invariant.0 c.self.invariant.2 c.self.invariant.3)
+    subst AreSoundWatchers c.self.view_is (seen-sound a.registrations (queues_by a.roster) a.pending.keys c.self.invariant.0 c.self.invariant.2 c.self.invariant.3)

@@ -1,8 +1,8 @@
 -- One queue is emptied.
-use Rattle.dom_observe.proofs.{Awaiting.awaited-emptied, Holding.names-only, Holding.tells-emptied, Holding.same-there, Keeping.kept-emptied, Keyrings.indexed-same, Rosters.has-same, Rosters.length-same, Watching.watches-taken}
+use Rattle.dom_observe.proofs.{IsAwaitedLemmas.awaited-emptied, NamedNodesLemmas.names-only, NamedNodesLemmas.tells-emptied, NamedNodesLemmas.same-there, InvariantLemmas.kept-emptied, ObserverKeysLemmas.indexed-same, RosterLemmas.has-same, RosterLemmas.length-same, WatchesLemmas.watches-taken}
 use Rattle.std.proofs.Common.{◌≡◌, ℕ, true, [], ap, sym, ◌∙◌, subst, List, Option, Some, slice_set}
 use Rattle.dom_model.specs.Definitions.{Registration, Record, records_taken}
-use Rattle.dom_observe.specs.{Watchers.Watchers, Watchers.Watches, Watchers.records_at, Registrations.at, Kept.registered_nodes, Kept.has_queue, Kept.IsKept, Kept.IsAwaited, Roster.queues_by, Naming.TellsNone}
+use Rattle.dom_observe.specs.{Watchers.Watchers, Watchers.Watches, Watchers.records_at, Registrations.at, Invariant.registered_nodes, Invariant.has_queue, Invariant.HoldsInvariant, Invariant.IsAwaited, Roster.queues_by, QueuedNodes.RecordsNameNone}
 use Rattle.dom_observe.proofs.observers.Observers.take.Goals as goal
 
 pub take_from-requires : goal.take_from-requires
@@ -12,7 +12,7 @@ pub invariant_of-self : goal.invariant_of-self
 invariant_of-self c =
     let a = c.self.inside in
     let held_there = subst (λ (o : Watchers). has_queue o.queues c.args.observer ≡ true) (sym c.self.view_is) c.requires.held in (
-      subst (λ (qs : List (Option (List Record))). IsKept a.registrations qs a.pending.keys) (sym c.take_from.ensures.emptied)
+      subst (λ (qs : List (Option (List Record))). HoldsInvariant a.registrations qs a.pending.keys) (sym c.take_from.ensures.emptied)
           (kept-emptied a.registrations (queues_by a.roster) a.pending.keys c.self.invariant.0 c.args.observer held_there),
       indexed-same (at a.registrations) a.fleeting.keys a.roster c.take_from.new.roster c.self.invariant.1 c.take_from.ensures.keys,
       c.self.invariant.2,
@@ -41,10 +41,10 @@ returns-clause-names c =
     let qs = queues_by a.roster in
     let held_there = subst (λ (o : Watchers). has_queue o.queues c.args.observer ≡ true) (sym c.self.view_is) c.requires.held in
     let kept =
-    subst (λ (qs : List (Option (List Record))). IsKept a.registrations qs a.pending.keys) (sym c.take_from.ensures.emptied)
+    subst (λ (qs : List (Option (List Record))). HoldsInvariant a.registrations qs a.pending.keys) (sym c.take_from.ensures.emptied)
     (kept-emptied a.registrations qs a.pending.keys c.self.invariant.0 c.args.observer held_there) in
     names-only a.registrations qs a.pending.keys c.args.self.now c.self.view_is a.registrations (queues_by c.take_from.new.roster) a.pending.keys kept []
-    (λ p _ names tells. (names, subst (TellsNone p) (sym c.take_from.ensures.emptied) (tells-emptied p qs c.args.observer held_there tells)))
+    (λ p _ names tells. (names, subst (RecordsNameNone p) (sym c.take_from.ensures.emptied) (tells-emptied p qs c.args.observer held_there tells)))
 
 pub returns-clause-made : goal.returns-clause-made
 returns-clause-made c =

@@ -1,7 +1,7 @@
 -- The pending observers are among those that were not told, and nobody is pending; or nothing has changed.
 use Rattle.std.proofs.Common.{[], sym, ◌∙◌, subst}
-use Rattle.dom_observe.specs.{Kept.has_queue, Kept.AllThere, Kept.IsKept, Roster.queues_by}
-use Rattle.dom_observe.proofs.{Awaiting.awaited-taken, Awaiting.insert_all-last, Holding.names-only, Holding.names-same}
+use Rattle.dom_observe.specs.{Invariant.has_queue, Invariant.AllThere, Invariant.HoldsInvariant, Roster.queues_by}
+use Rattle.dom_observe.proofs.{IsAwaitedLemmas.awaited-taken, IsAwaitedLemmas.insert_all-last, NamedNodesLemmas.names-only, NamedNodesLemmas.names-same}
 use Rattle.dom_observe.proofs.observers.Observers.take_pending.Goals as goal
 
 pub invariant_of-self-2 : goal.invariant_of-self-2
@@ -9,7 +9,7 @@ invariant_of-self-2 c =
     let a = c.self.inside in
     let qs = queues_by a.roster in
     let kept = c.self.invariant.0 in
-    let nobody : IsKept a.registrations qs c.append.new.other.keys = record {
+    let nobody : HoldsInvariant a.registrations qs c.append.new.other.keys = record {
       are = kept.are;
       stand = kept.stand;
       there = subst (AllThere (has_queue qs)) (sym c.in_ok-append.ensures.emptied) tt;
@@ -26,7 +26,7 @@ returns-clause-names c =
     let a = c.self.inside in
     let qs = queues_by a.roster in
     let kept = c.self.invariant.0 in
-    let nobody : IsKept a.registrations qs c.append.new.other.keys = record {
+    let nobody : HoldsInvariant a.registrations qs c.append.new.other.keys = record {
       are = kept.are;
       stand = kept.stand;
       there = subst (AllThere (has_queue qs)) (sym c.in_ok-append.ensures.emptied) tt;
@@ -43,4 +43,4 @@ returns-in_err-append-clause-names c =
     let a = c.self.inside in
     let qs = queues_by a.roster in
     names-only a.registrations qs a.pending.keys c.args.self.now c.self.view_is a.registrations qs c.append.new.other.keys
-    (subst (IsKept a.registrations qs) (sym c.in_err-append.ensures.other_err) c.self.invariant.0) [] (λ p _ names tells. (names, tells))
+    (subst (HoldsInvariant a.registrations qs) (sym c.in_err-append.ensures.other_err) c.self.invariant.0) [] (λ p _ names tells. (names, tells))

@@ -4,8 +4,8 @@ use Rattle.std.specs.List.{AllByRecursion}
 use Rattle.std.proofs.lemmas.Bool.{true≢false, or_parts}
 use Rattle.dom_model.proofs.PlainLists.Numbers.{same_or, same, apart}
 use Rattle.dom_model.specs.Definitions.{ancestors, registered_on, with_transients}
-use Rattle.dom_observe.specs.{Once.once, Watchers.Watchers, Watchers.Watches, Watchers.on, Registrations.at, Registrations.found, Registrations.is_live, Registrations.AllLive, Registrations.Stands, Kept.registered_nodes, Kept.has_queue, Kept.IsKept, Kept.IsAwaited, Roster.lasting_by, Roster.passing_by, Roster.queues_by, Naming.names_one, Naming.TellsNone}
-use Rattle.dom_observe.proofs.{Holding.names-only, Holding.same-queues, Keyrings.indexed-by, Outcomes.on_ok, Outcomes.at_err, Refusing.left-same, Refusing.partly-left, Tables.live_of_stands, Keeping.on-registered_nodes, Keeping.kept-others, Keeping.all_deep, Keeping.stands_of, Transients.transients-once, Transients.none-added-there, Watching.watches-transients, Quiet.not_nothing, Quiet.none-deep}
+use Rattle.dom_observe.specs.{WithoutRepeats.once, Watchers.Watchers, Watchers.Watches, Watchers.on, Registrations.at, Registrations.found, Registrations.is_live, Registrations.AllLive, Registrations.HasRegistration, Invariant.registered_nodes, Invariant.has_queue, Invariant.HoldsInvariant, Invariant.IsAwaited, Roster.lasting_by, Roster.passing_by, Roster.queues_by, QueuedNodes.names_one, QueuedNodes.RecordsNameNone}
+use Rattle.dom_observe.proofs.{NamedNodesLemmas.names-only, NamedNodesLemmas.same-queues, ObserverKeysLemmas.indexed-by, ResultLemmas.on_ok, ResultLemmas.at_err, IsFrontLemmas.left-same, IsFrontLemmas.partly-left, RegistrationTableLemmas.live_of_stands, InvariantLemmas.on-registered_nodes, InvariantLemmas.kept-others, InvariantLemmas.all_deep, InvariantLemmas.stands_of, TransientLemmas.transients-once, TransientLemmas.none-added-there, WatchesLemmas.watches-transients, NoneInterestedLemmas.not_nothing, NoneInterestedLemmas.none-deep}
 use Rattle.dom_observe.proofs.observers.Observers.transients.Goals as goal
 
 none : {A : Type 0} (xs : List A) → length xs ≡ 0 → xs ≡ []
@@ -42,12 +42,12 @@ pub invariant_of-self-2 : goal.invariant_of-self-2
 invariant_of-self-2 g c =
     let a = c.self.inside in
     let there = has_queue (queues_by a.roster) in
-    let bounded = subst (AllByRecursion (Stands (at a.registrations) there)) (sym (c.as_slice.ensures.value ∙ c.in_ok-find_standing_deep.ensures))
-    (all_deep (at a.registrations) (Stands (at a.registrations) there) a.registrations.lists (λ n. stands_of (at a.registrations) there n (on n a.registrations.lists) (c.self.invariant.0.stand n)) (ancestors c.args.parent c.args.tree.now.forest)) in
+    let bounded = subst (AllByRecursion (HasRegistration (at a.registrations) there)) (sym (c.as_slice.ensures.value ∙ c.in_ok-find_standing_deep.ensures))
+    (all_deep (at a.registrations) (HasRegistration (at a.registrations) there) a.registrations.lists (λ n. stands_of (at a.registrations) there n (on n a.registrations.lists) (c.self.invariant.0.stand n)) (ancestors c.args.parent c.args.tree.now.forest)) in
     let stand = c.add_transients.ensures.all_stand there bounded c.self.invariant.0.stand in
     let roster' = c.add_transients.new.roster in
     let queues = c.add_transients.ensures.queues in (
-      subst (λ q. IsKept c.add_transients.new.registrations q a.pending.keys) (sym queues)
+      subst (λ q. HoldsInvariant c.add_transients.new.registrations q a.pending.keys) (sym queues)
           (kept-others a.registrations (queues_by a.roster) a.pending.keys c.self.invariant.0 c.add_transients.new.registrations c.add_transients.ensures.sound stand),
       indexed-by (at c.add_transients.new.registrations) c.add_transients.new.fleeting.keys roster' (lasting_by a.roster) (passing_by roster') there c.add_transients.ensures.lasting refl
           (λ i held_there. ap (λ q. has_queue q i) queues ∙ held_there) (c.add_transients.ensures.indexed (lasting_by a.roster) there bounded c.self.invariant.1),
@@ -77,18 +77,18 @@ returns-clause-names g c =
     let ns = ancestors c.args.parent c.args.tree.now.forest in
     let lists = a.registrations.lists in
     let keys = c.as_slice.ensures.value ∙ c.in_ok-find_standing_deep.ensures in
-    let bounded = subst (AllByRecursion (Stands (at a.registrations) there)) (sym keys)
-    (all_deep (at a.registrations) (Stands (at a.registrations) there) lists (λ n. stands_of (at a.registrations) there n (on n lists) (c.self.invariant.0.stand n)) ns) in
+    let bounded = subst (AllByRecursion (HasRegistration (at a.registrations) there)) (sym keys)
+    (all_deep (at a.registrations) (HasRegistration (at a.registrations) there) lists (λ n. stands_of (at a.registrations) there n (on n lists) (c.self.invariant.0.stand n)) ns) in
     let stand = c.add_transients.ensures.all_stand there bounded c.self.invariant.0.stand in
     let queues = c.add_transients.ensures.queues in
     let kept =
-    subst (λ q. IsKept c.add_transients.new.registrations q a.pending.keys) (sym queues)
+    subst (λ q. HoldsInvariant c.add_transients.new.registrations q a.pending.keys) (sym queues)
     (kept-others a.registrations qs a.pending.keys c.self.invariant.0 c.add_transients.new.registrations c.add_transients.ensures.sound stand) in
     names-only a.registrations qs a.pending.keys c.args.self.now c.self.view_is c.add_transients.new.registrations (queues_by c.add_transients.new.roster) a.pending.keys kept (c.args.node ∷ [])
     (λ p nameless names tells. (
       c.add_transients.ensures.names p (or_parts (p c.args.node) false nameless).0
           (subst (AllByRecursion (λ k. names_one p (at a.registrations k) ≡ false)) (sym keys) (all_deep (at a.registrations) (λ k. names_one p (at a.registrations k) ≡ false) lists names ns)) names,
-      subst (TellsNone p) (sym queues) tells,
+      subst (RecordsNameNone p) (sym queues) tells,
     ))
 
 pub returns-then-is_empty-clause-names : goal.returns-then-is_empty-clause-names
@@ -105,8 +105,8 @@ pub add_transients-requires-clause-there : goal.add_transients-requires-clause-t
 add_transients-requires-clause-there g c =
     let a = c.self.inside in
     let there = has_queue (queues_by a.roster) in
-    subst (AllByRecursion (Stands (at a.registrations) there)) (sym (c.as_slice.ensures.value ∙ c.in_ok-find_standing_deep.ensures))
-    (all_deep (at a.registrations) (Stands (at a.registrations) there) a.registrations.lists (λ n. stands_of (at a.registrations) there n (on n a.registrations.lists) (c.self.invariant.0.stand n)) (ancestors c.args.parent c.args.tree.now.forest))
+    subst (AllByRecursion (HasRegistration (at a.registrations) there)) (sym (c.as_slice.ensures.value ∙ c.in_ok-find_standing_deep.ensures))
+    (all_deep (at a.registrations) (HasRegistration (at a.registrations) there) a.registrations.lists (λ n. stands_of (at a.registrations) there n (on n a.registrations.lists) (c.self.invariant.0.stand n)) (ancestors c.args.parent c.args.tree.now.forest))
 
 pub returns-clause-made : goal.returns-clause-made
 returns-clause-made g c =

@@ -2,7 +2,7 @@
 use Rattle.std.proofs.Common.{◌≡◌, ℕ, ◌-◌, ◌||◌, length, take, drop, ap, sym, ◌∙◌, arith, take_all, length-drop, flat_map}
 use Rattle.std.specs.List.{list_any}
 use Rattle.dom_model.specs.Definitions.{among, inclusive_descendants, Record, nodes_of_record}
-use Rattle.dom_observe.proofs.NamedRecords.{any-caught_up}
+use Rattle.dom_observe.proofs.NamesNodesLemmas.{any-caught_up}
 use Rattle.dom_observe.proofs.queue.Queue.names_inside.Goals as goal
 
 pub returns-then-is_named_inside : goal.returns-then-is_named_inside
@@ -24,7 +24,7 @@ returns-else-is_named_inside g c =
     let one = λ (r : Record). list_any p (nodes_of_record r) in
     let rest : take (length c.as_slice.result.now - q.caught_up) (drop q.caught_up c.as_slice.result.now) ≡ drop q.caught_up rs =
     take_all (length c.as_slice.result.now - q.caught_up) (drop q.caught_up c.as_slice.result.now) (omega (arith, length-drop q.caught_up c.as_slice.result.now)) ∙ ap (drop q.caught_up) c.as_slice.ensures.value in
-    c.is_told_inside.ensures
+    c.is_recorded_inside.ensures
     ∙ ap (list_any one) rest
     ∙ sym (ap (λ l. list_any p (flat_map nodes_of_record l)) (sym c.self.view_is)
     ∙ any-caught_up p rs q.named q.caught_up q.owed c.self.invariant

@@ -2,8 +2,8 @@
 use Rattle.std.proofs.Common.{Some, refl, ap, sym, ◌∙◌, subst}
 use Rattle.slab.specs.Slab.{Updates}
 use Rattle.dom_model.specs.Definitions.{among}
-use Rattle.dom_observe.specs.{Kept.AreRegistered, declared.registration.Registration.Registration, Watchers.on, Registrations.Registered, Registrations.listed, Turns.turn_at, Turns.Rises}
-use Rattle.dom_observe.proofs.{Outcomes.at_err, Registering.unique-in, Registering.put-last, Registering.put-among, Registering.registered-put, Registering.seen-same}
+use Rattle.dom_observe.specs.{Invariant.AreRegistered, declared.registration.Registration.Registration, Watchers.on, Registrations.Registered, Registrations.listed, Turns.turn_at, Turns.Rises}
+use Rattle.dom_observe.proofs.{ResultLemmas.at_err, AreRegisteredLemmas.unique-in, AreRegisteredLemmas.put-last, AreRegisteredLemmas.put-among, AreRegisteredLemmas.registered-put, AreRegisteredLemmas.seen-same}
 use Rattle.dom_observe.proofs.registrations.Registrations.add.Goals as goal
 
 pub put_key-requires : goal.put_key-requires

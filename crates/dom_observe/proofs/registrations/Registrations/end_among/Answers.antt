@@ -2,7 +2,7 @@
 use Rattle.std.proofs.Common.{◌≡◌, None, Some, refl, ap, sym, ◌∙◌, inl, arith, slice_index_or}
 use Rattle.dom_model.specs.Definitions.{among}
 use Rattle.dom_observe.specs.{Watchers.on, Registrations.at, Registrations.ending_node}
-use Rattle.dom_observe.proofs.{EndedOnes.swept-none, EndedOnes.swept-two, NodeByNode.between-two, NodeByNode.done-now, NodeByNode.ends-none, NodeByNode.done-next, NodeByNode.on-between, NodeByNode.on-or_gone, NodeByNode.on-done, NodeByNode.take-whole, registrations.Registrations.end_among.Goals.in-Some, registrations.Registrations.end_among.Goals.in_default}
+use Rattle.dom_observe.proofs.{LeftByLemmas.swept-none, LeftByLemmas.swept-two, EndByNodeLemmas.between-two, EndByNodeLemmas.done-now, EndByNodeLemmas.ends-none, EndByNodeLemmas.done-next, EndByNodeLemmas.on-between, EndByNodeLemmas.on-or_gone, EndByNodeLemmas.on-done, EndByNodeLemmas.take-whole, registrations.Registrations.end_among.Goals.in-Some, registrations.Registrations.end_among.Goals.in_default}
 use Rattle.dom_observe.proofs.registrations.Registrations.end_among.Goals as goal
 
 pub loop-key-init : goal.loop-key-init

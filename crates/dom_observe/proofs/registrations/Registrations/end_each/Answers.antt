@@ -2,7 +2,7 @@
 use Rattle.std.proofs.Common.{◌≡◌, None, Some, refl, ap, sym, ◌∙◌, inl, arith, slice_index_or}
 use Rattle.dom_model.specs.Definitions.{among}
 use Rattle.dom_observe.specs.{Watchers.on, Registrations.at, Registrations.ending_node}
-use Rattle.dom_observe.proofs.{EndedOnes.swept-none, EndedOnes.swept-two, NodeByNode.between-two, NodeByNode.done-now, NodeByNode.ends-none, NodeByNode.ends-here, NodeByNode.done-next, NodeByNode.one-ends, NodeByNode.one-between, NodeByNode.one-or_gone, NodeByNode.take-whole, registrations.Registrations.end_each.Goals.in-Some, registrations.Registrations.end_each.Goals.in_default}
+use Rattle.dom_observe.proofs.{LeftByLemmas.swept-none, LeftByLemmas.swept-two, EndByNodeLemmas.between-two, EndByNodeLemmas.done-now, EndByNodeLemmas.ends-none, EndByNodeLemmas.ends-here, EndByNodeLemmas.done-next, EndByNodeLemmas.one-ends, EndByNodeLemmas.one-between, EndByNodeLemmas.one-or_gone, EndByNodeLemmas.take-whole, registrations.Registrations.end_each.Goals.in-Some, registrations.Registrations.end_each.Goals.in_default}
 use Rattle.dom_observe.proofs.registrations.Registrations.end_each.Goals as goal
 
 pub loop-key-init : goal.loop-key-init

@@ -2,7 +2,7 @@
 use Rattle.std.proofs.Common.{◌++◌, take, drop, ap, sym, ◌∙◌, subst}
 use Rattle.dom_model.specs.Definitions.{among}
 use Rattle.dom_observe.specs.Registrations.{at, ByOrigin, IsFirstFrom, IsPast}
-use Rattle.dom_observe.proofs.{EndedFrom.all_from, EndedFrom.drop-two, EndedFrom.whole-rest, EndedFrom.whole-part, EndedFrom.from-done, EndedFrom.from-keys, NodeByNode.all-done, Ordered.ordered-drop}
+use Rattle.dom_observe.proofs.{EndFromLemmas.all_from, EndFromLemmas.drop-two, EndFromLemmas.whole-rest, EndFromLemmas.whole-part, EndFromLemmas.from-done, EndFromLemmas.from-keys, EndByNodeLemmas.all-done, OrderedLemmas.ordered-drop}
 use Rattle.dom_observe.proofs.registrations.Registrations.end_from.Goals as goal
 
 pub returns-clause-left : goal.returns-clause-left

@@ -1,7 +1,7 @@
 -- What ends goes with its keys, and the node with the last.
 use Rattle.std.proofs.Common.{◌≡◌, ℕ, filter, ◌∙◌}
 use Rattle.dom_observe.specs.{Watchers.on, Registrations.in_table, Registrations.listed, Registrations.is_live}
-use Rattle.dom_observe.proofs.{NodeByNode.on-swept, Registering.unique-in, Registering.registered-swept, registrations.Registrations.end_on.Goals.After-leave_out}
+use Rattle.dom_observe.proofs.{EndByNodeLemmas.on-swept, AreRegisteredLemmas.unique-in, AreRegisteredLemmas.registered-swept, registrations.Registrations.end_on.Goals.After-leave_out}
 use Rattle.dom_observe.proofs.registrations.Registrations.end_on.Goals as goal
 
 pub end_keys_on-is_bare-requires : goal.end_keys_on-is_bare-requires

@@ -1,7 +1,7 @@
 -- It goes with its key, and the node with the last.
 use Rattle.std.proofs.Common.{◌≡◌, ℕ, filter, ap, ◌∙◌}
-use Rattle.dom_observe.specs.{Watchers.on, Registrations.at, Registrations.in_table, Registrations.listed, Registrations.is_live, Registrations.is_on}
-use Rattle.dom_observe.proofs.{NodeByNode.one-swept, Registering.unique-in, Registering.are-live, Registering.registered-swept, registrations.Registrations.end_one.Goals.After-leave_out}
+use Rattle.dom_observe.specs.{Watchers.on, Registrations.at, Registrations.in_table, Registrations.listed, Registrations.is_live, Registrations.is_on_node}
+use Rattle.dom_observe.proofs.{EndByNodeLemmas.one-swept, AreRegisteredLemmas.unique-in, AreRegisteredLemmas.are-live, AreRegisteredLemmas.registered-swept, registrations.Registrations.end_one.Goals.After-leave_out}
 use Rattle.dom_observe.proofs.registrations.Registrations.end_one.Goals as goal
 
 pub end_key_on-is_bare-requires-clause-unique : goal.end_key_on-is_bare-requires-clause-unique
@@ -16,12 +16,12 @@ end_key_on-is_bare-requires-clause-live c = are-live c.self.invariant c.args.nod
 pub end_key_on-is_bare-requires-clause-there : goal.end_key_on-is_bare-requires-clause-there
 end_key_on-is_bare-requires-clause-there c =
     let a = c.self.inside in
-    c.self.invariant.placed c.args.node c.args.key ∙ ap (is_on c.args.node) (ap (λ r. at r c.args.key) c.self.view_is) ∙ c.requires
+    c.self.invariant.placed c.args.node c.args.key ∙ ap (is_on_node c.args.node) (ap (λ r. at r c.args.key) c.self.view_is) ∙ c.requires
 
 swept_in : (c : After-leave_out) → (n : ℕ) → on n (listed c.leave_out.new.nodes.entries) ≡ filter (is_live (in_table c.end_key_on-is_bare.new.table)) (on n (listed c.self.inside.nodes.entries))
 swept_in c n =
     let a = c.self.inside in
-    c.leave_out.ensures.kept n ∙ one-swept (in_table a.table) (in_table c.end_key_on-is_bare.new.table) c.args.key c.end_key_on-is_bare.ensures.left (listed a.nodes.entries) (listed c.end_key_on-is_bare.new.nodes.entries) c.args.node c.self.invariant.placed (ap (is_on c.args.node) (ap (λ r. at r c.args.key) c.self.view_is) ∙ c.requires) c.end_key_on-is_bare.ensures.keys.kept n
+    c.leave_out.ensures.kept n ∙ one-swept (in_table a.table) (in_table c.end_key_on-is_bare.new.table) c.args.key c.end_key_on-is_bare.ensures.left (listed a.nodes.entries) (listed c.end_key_on-is_bare.new.nodes.entries) c.args.node c.self.invariant.placed (ap (is_on_node c.args.node) (ap (λ r. at r c.args.key) c.self.view_is) ∙ c.requires) c.end_key_on-is_bare.ensures.keys.kept n
 
 pub invariant_of-self : goal.invariant_of-self
 invariant_of-self c =

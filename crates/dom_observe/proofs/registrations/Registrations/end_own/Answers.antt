@@ -2,7 +2,7 @@
 use Rattle.std.proofs.Common.{ap, ◌∙◌}
 use Rattle.dom_model.specs.Definitions.{among}
 use Rattle.dom_observe.specs.Registrations.{at}
-use Rattle.dom_observe.proofs.NodeByNode.{all-done}
+use Rattle.dom_observe.proofs.EndByNodeLemmas.{all-done}
 use Rattle.dom_observe.proofs.registrations.Registrations.end_own.Goals as goal
 
 pub returns-clause-left : goal.returns-clause-left

@@ -1,8 +1,8 @@
 -- The keys of the next observer are gone through.
 use Rattle.std.proofs.Common.{◌≡◌, ℕ, suc, ◌+◌, true, [], Some, None, take, refl, ap, sym, ◌∙◌, inl, option_copied, arith, slice_get, slice_index_or}
 use Rattle.dom_model.specs.Definitions.{among}
-use Rattle.dom_observe.specs.{Watchers.on, Registrations.at, Kept.has_queue, Roster.passing_by, Roster.queues_by}
-use Rattle.dom_observe.proofs.{EndedOnes.swept-none, EndedOnes.swept-two, EndedOnes.at-get, EndedOnes.among-last, Gathered.take-next, Hearing.take-none, NodeByNode.every_transient, NodeByNode.between-two, NodeByNode.between-gone, NodeByNode.done-more, NodeByNode.take-whole, NodeByNode.transients-gone, Rosters.has-kept, Rosters.passing-there, registrations.Registrations.end_passing.Goals.in-Some, registrations.Registrations.end_passing.Goals.in_default}
+use Rattle.dom_observe.specs.{Watchers.on, Registrations.at, Invariant.has_queue, Roster.passing_by, Roster.queues_by}
+use Rattle.dom_observe.proofs.{LeftByLemmas.swept-none, LeftByLemmas.swept-two, LeftByLemmas.at-get, LeftByLemmas.among-last, GatherLemmas.take-next, InterestedLemmas.take-none, EndByNodeLemmas.every_transient, EndByNodeLemmas.between-two, EndByNodeLemmas.between-gone, EndByNodeLemmas.done-more, EndByNodeLemmas.take-whole, EndByNodeLemmas.transients-gone, RosterLemmas.has-kept, RosterLemmas.passing-there, registrations.Registrations.end_passing.Goals.in-Some, registrations.Registrations.end_passing.Goals.in_default}
 use Rattle.dom_observe.proofs.registrations.Registrations.end_passing.Goals as goal
 
 pub get-kept-requires : goal.get-kept-requires

@@ -2,7 +2,7 @@
 use Rattle.std.proofs.Common.{ap, sym, ◌∙◌}
 use Rattle.dom_model.specs.Definitions.{among}
 use Rattle.dom_observe.specs.Registrations.{at, passes_for}
-use Rattle.dom_observe.proofs.EndedOnes.{none-passing}
+use Rattle.dom_observe.proofs.LeftByLemmas.{none-passing}
 use Rattle.dom_observe.proofs.registrations.Registrations.end_transients.Goals as goal
 
 pub returns-clause-owned : goal.returns-clause-owned

@@ -2,7 +2,7 @@
 use Rattle.std.proofs.Common.{ap, sym, ◌∙◌, nat_eq}
 use Rattle.std.specs.Map.{lookup}
 use Rattle.dom_observe.specs.{Watchers.on, Registrations.Registered}
-use Rattle.dom_observe.proofs.Keys.{items_in, on-lookup}
+use Rattle.dom_observe.proofs.KeysLemmas.{items_in, on-lookup}
 use Rattle.dom_observe.proofs.registrations.Registrations.keys_on.Goals as goal
 
 pub returns-in-Some : goal.returns-in-Some

@@ -1,7 +1,7 @@
 -- Either list finds it.
 use Rattle.std.proofs.Common.{sym, ◌∙◌}
 use Rattle.dom_observe.specs.{Watchers.on, Registrations.at}
-use Rattle.dom_observe.proofs.OwnKeys.{found-either}
+use Rattle.dom_observe.proofs.OwnKeyLemmas.{found-either}
 use Rattle.dom_observe.proofs.registrations.Registrations.own_key.Goals as goal
 
 pub returns-then-lasting-keys : goal.returns-then-lasting-keys

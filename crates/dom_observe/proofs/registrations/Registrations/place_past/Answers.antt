@@ -2,7 +2,7 @@
 use Rattle.std.proofs.Common.{leb, rules}
 use Rattle.std.proofs.lemmas.List.Sorted.{IsPartitionPoint-from_clause, IsPartitionedBy-leb}
 use Rattle.dom_observe.specs.Registrations.{at, origin_at}
-use Rattle.dom_observe.proofs.Ordered.{non_decreasing, past_last}
+use Rattle.dom_observe.proofs.OrderedLemmas.{non_decreasing, past_last}
 use Rattle.dom_observe.proofs.registrations.Registrations.place_past.Goals as goal
 
 pub returns-clause-place : goal.returns-clause-place

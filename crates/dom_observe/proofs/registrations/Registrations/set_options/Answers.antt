@@ -1,5 +1,5 @@
 -- It stays under its key.
-use Rattle.dom_observe.proofs.Registering.{registered-changed}
+use Rattle.dom_observe.proofs.AreRegisteredLemmas.{registered-changed}
 use Rattle.dom_observe.proofs.registrations.Registrations.set_options.Goals as goal
 
 pub invariant_of-self : goal.invariant_of-self

@@ -1,5 +1,5 @@
 use Rattle.std.proofs.Common.{subst}
-use Rattle.dom_observe.specs.Kept.{AreRegistered}
+use Rattle.dom_observe.specs.Invariant.{AreRegistered}
 use Rattle.dom_observe.proofs.registrations.Registrations.sound.Goals as goal
 
 pub returns : goal.returns

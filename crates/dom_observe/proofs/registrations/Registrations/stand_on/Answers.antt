@@ -3,7 +3,7 @@ use Rattle.std.specs.Map.{keys_of}
 use Rattle.std.proofs.lemmas.Map.Made.{keys_of-map_values}
 use Rattle.dom_model.specs.Definitions.{among}
 use Rattle.dom_observe.specs.{Keys.Keys, Registrations.Registered}
-use Rattle.dom_observe.proofs.Keys.{some-lookup}
+use Rattle.dom_observe.proofs.KeysLemmas.{some-lookup}
 use Rattle.dom_observe.proofs.registrations.Registrations.stand_on.Goals as goal
 
 pub returns : goal.returns

@@ -1,7 +1,7 @@
 -- What lies in the observer's slot, and what is written there.
 use Rattle.std.proofs.Common.{◌≡◌, Some, refl, ap, sym, ◌∙◌, slice_set}
 use Rattle.dom_slots.specs.Slotted.{slot_at}
-use Rattle.dom_slots.proofs.Entries.{has_slot, item_in_slot, by_slot-set}
+use Rattle.dom_slots.proofs.SlotEntryLemmas.{has_slot, item_in_slot, by_slot-set}
 use Rattle.dom_observe.specs.Roster.{observer_at}
 use Rattle.dom_observe.proofs.roster.Roster.get_mut.Goals as goal
 

@@ -2,7 +2,7 @@
 use Rattle.std.proofs.Common.{◌≡◌, [], ◌∷◌, ◌++◌, Some, ap, ◌∙◌}
 use Rattle.dom_slots.specs.Slotted.{by_slot}
 use Rattle.dom_observe.specs.Roster.{keys_by, queues_by}
-use Rattle.dom_observe.proofs.Rosters.{keys-made, queues-made}
+use Rattle.dom_observe.proofs.RosterLemmas.{keys-made, queues-made}
 use Rattle.dom_observe.proofs.roster.Roster.make.Goals as goal
 
 pub returns-clause-keys : goal.returns-clause-keys

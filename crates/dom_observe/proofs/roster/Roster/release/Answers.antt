@@ -1,5 +1,5 @@
 -- The last observer comes into the slot.
-use Rattle.dom_slots.proofs.Entries.{has_slot}
+use Rattle.dom_slots.proofs.SlotEntryLemmas.{has_slot}
 use Rattle.dom_observe.proofs.roster.Roster.release.Goals as goal
 
 pub release-requires : goal.release-requires

@@ -2,7 +2,7 @@
 use Rattle.std.proofs.Common.{◌≡◌, map, ap, ◌∙◌, arith}
 use Rattle.std.proofs.lemmas.Grind.{common_steps}
 use Rattle.dom_pages.specs.Paged.{taken_in}
-use Rattle.dom_pages.proofs.{Held.counted-pushed, Taken.none_stands}
+use Rattle.dom_pages.proofs.{CellReadLemmas.counted-pushed, PageCountLemmas.none_stands}
 use Rattle.dom_pages.proofs.page.Page.blank.Goals as goal
 
 pub loop-preserved : goal.loop-preserved

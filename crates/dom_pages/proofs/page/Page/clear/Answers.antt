@@ -2,7 +2,7 @@
 use Rattle.std.proofs.Common.{◌≡◌, ◌+◌, ◌<◌, None, length, map, slice_index_or, slice_set, ap, ◌∙◌, sym, arith}
 use Rattle.std.proofs.lemmas.{Grind.common_steps, List.length-map, List.length-set}
 use Rattle.dom_pages.specs.Paged.{taken, taken_in}
-use Rattle.dom_pages.proofs.{Held.held-set, Held.counted-set, Taken.taken-some, Taken.taken_within}
+use Rattle.dom_pages.proofs.{CellReadLemmas.held-set, CellReadLemmas.counted-set, PageCountLemmas.taken-some, PageCountLemmas.taken_within}
 use Rattle.dom_pages.proofs.page.Page.clear.Goals as goal
 
 pub overflow_sub-self : goal.overflow_sub-self

@@ -1,7 +1,7 @@
 -- Where nothing stands in any cell, none is counted.
 use Rattle.std.proofs.Common.{◌≡◌, map, ap, sym, ◌∙◌, subst, nat_eq}
 use Rattle.dom_pages.specs.Paged.{AllVacant}
-use Rattle.dom_pages.proofs.Taken.{none_counted}
+use Rattle.dom_pages.proofs.PageCountLemmas.{none_counted}
 use Rattle.dom_pages.proofs.page.Page.is_vacant.Goals as goal
 
 pub returns-clause-sure : goal.returns-clause-sure

@@ -2,7 +2,7 @@
 use Rattle.std.proofs.Common.{◌≡◌, ◌+◌, ◌<◌, Some, None, length, map, not, slice_index_or, slice_set, ap, ◌∙◌, sym, subst, arith}
 use Rattle.std.proofs.lemmas.List.{length-map, length-set}
 use Rattle.dom_pages.specs.Paged.{taken, taken_in}
-use Rattle.dom_pages.proofs.{Held.held_at, Held.held-set, Held.counted-set, Taken.taken-none, Taken.taken-some, Taken.taken_in-lt, page.Page.put.Goals.then-is_none, page.Page.put.Goals.else-is_none}
+use Rattle.dom_pages.proofs.{CellReadLemmas.held_at, CellReadLemmas.held-set, CellReadLemmas.counted-set, PageCountLemmas.taken-none, PageCountLemmas.taken-some, PageCountLemmas.taken_in-lt, page.Page.put.Goals.then-is_none, page.Page.put.Goals.else-is_none}
 use Rattle.dom_pages.proofs.page.Page.put.Goals as goal
 
 pub overflow_add-self : goal.overflow_add-self

@@ -1,7 +1,7 @@
 -- A page with nothing in it behind the others changes nothing that stands under a number.
 use Rattle.std.proofs.Common.{◌<◌, length, sym, ap, ◌∙◌, subst, arith}
 use Rattle.dom_pages.specs.Paged.{cells_of, IsPaged}
-use Rattle.dom_pages.proofs.{Cells.length-cells_of, Cells.cells_of-same, Paging.IsPaged-added, Written.cell_at-added}
+use Rattle.dom_pages.proofs.{CellsLemmas.length-cells_of, CellsLemmas.cells_of-same, PagesLemmas.IsPaged-added, PageWriteLemmas.cell_at-added}
 use Rattle.dom_pages.proofs.pages.Pages.add_page.Goals as goal
 
 pub invariant_of-self-2 : goal.invariant_of-self-2

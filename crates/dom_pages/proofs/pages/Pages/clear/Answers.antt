@@ -1,7 +1,7 @@
 -- The cell of the number is emptied, and what the page gives back changes nothing that stands under a number.
 use Rattle.std.proofs.Common.{◌≡◌, ◌/◌, ◌<◌, false, true, None, length, slice_set, sym, ap, ◌∙◌, subst, arith}
 use Rattle.dom_pages.specs.Paged.{cells_of, AllVacant, IsPaged}
-use Rattle.dom_pages.proofs.{Cells.length-cells_of, Cells.cells_of-written, Cells.cells_of-emptied, Paging.has_page, Paging.IsPaged-cleared, Paging.IsPaged-emptied, Written.cell_at-cleared, Written.is_written, Written.is_cleared, pages.Pages.clear.Goals.then-number-self+then-is_vacant, pages.Pages.clear.Goals.else-number-self, pages.Pages.clear.Goals.else-number-self-via-then-number-self+else-is_vacant, pages.Pages.clear.Goals.else-number-self-via-else-number-self}
+use Rattle.dom_pages.proofs.{CellsLemmas.length-cells_of, CellsLemmas.cells_of-written, CellsLemmas.cells_of-emptied, PagesLemmas.has_page, PagesLemmas.IsPaged-cleared, PagesLemmas.IsPaged-emptied, PageWriteLemmas.cell_at-cleared, PageWriteLemmas.is_written, PageWriteLemmas.is_cleared, pages.Pages.clear.Goals.then-number-self+then-is_vacant, pages.Pages.clear.Goals.else-number-self, pages.Pages.clear.Goals.else-number-self-via-then-number-self+else-is_vacant, pages.Pages.clear.Goals.else-number-self-via-else-number-self}
 use Rattle.dom_pages.proofs.pages.Pages.clear.Goals as goal
 
 pub index_mut-page-requires : goal.index_mut-page-requires

@@ -1,6 +1,6 @@
 -- What stands under a number is read through its page, where there is one.
 use Rattle.std.proofs.Common.{◌/◌, ◌%◌, ◌≤◌, [], None, length, slice_index_or, sym, ap, ◌∙◌, arith}
-use Rattle.dom_pages.proofs.{Paging.get_or-items, Written.cell_at-past}
+use Rattle.dom_pages.proofs.{PagesLemmas.get_or-items, PageWriteLemmas.cell_at-past}
 use Rattle.dom_pages.proofs.pages.Pages.get.Goals as goal
 
 pub returns-in-Some : goal.returns-in-Some

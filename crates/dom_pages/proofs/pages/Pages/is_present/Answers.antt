@@ -2,7 +2,7 @@
 use Rattle.std.proofs.Common.{◌≡◌, ◌/◌, ◌≤◌, [], None, IsSome, length, slice_index_or, sym, ap, ◌∙◌, subst, arith}
 use Rattle.std.proofs.lemmas.List.{get_or_past}
 use Rattle.dom_pages.specs.Paged.{page_at, cells_of, IsTakenBack}
-use Rattle.dom_pages.proofs.Paging.{has_cell, taken_back}
+use Rattle.dom_pages.proofs.PagesLemmas.{has_cell, taken_back}
 use Rattle.dom_pages.proofs.pages.Pages.is_present.Goals as goal
 
 pub returns-in-Some-clause-present : goal.returns-in-Some-clause-present

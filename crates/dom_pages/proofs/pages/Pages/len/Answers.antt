@@ -1,6 +1,6 @@
 -- There are as many items as numbers.
 use Rattle.std.proofs.Common.{length, sym, ap, ◌∙◌}
-use Rattle.dom_pages.proofs.Cells.{length-cells_of}
+use Rattle.dom_pages.proofs.CellsLemmas.{length-cells_of}
 use Rattle.dom_pages.proofs.pages.Pages.len.Goals as goal
 
 pub returns : goal.returns

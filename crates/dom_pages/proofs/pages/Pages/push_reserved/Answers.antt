@@ -1,7 +1,7 @@
 -- The next cell is written, behind the others.
 use Rattle.std.proofs.Common.{◌<◌, ◌*◌, ◌+◌, ◌∷◌, ◌++◌, [], Some, length, ap, sym, subst, ◌∙◌, arith, tests, rules}
 use Rattle.dom_pages.specs.Paged.{cells_of, IsPaged}
-use Rattle.dom_pages.proofs.{Cells.cells_of-pushed, Paging.has_next, Paging.IsPaged-put, Written.cell_at-same, Written.is_written}
+use Rattle.dom_pages.proofs.{CellsLemmas.cells_of-pushed, PagesLemmas.has_next, PagesLemmas.IsPaged-put, PageWriteLemmas.cell_at-same, PageWriteLemmas.is_written}
 use Rattle.dom_pages.proofs.pages.Pages.push_reserved.Goals as goal
 
 pub returns-clause-items : goal.returns-clause-items

@@ -2,7 +2,7 @@
 use Rattle.std.proofs.Common.{◌/◌, [], Some, None, IsSome, length, slice_index_or, slice_set, sym, ap, ◌∙◌, subst, arith, tests, rules}
 use Rattle.std.proofs.lemmas.List.{get_or_default}
 use Rattle.dom_pages.specs.Paged.{cells_of, IsPaged}
-use Rattle.dom_pages.proofs.{Cells.cells_of-written, Paging.has_page, Paging.given_out, Paging.has_cell, Paging.IsPaged-put, Written.cell_at-same, Written.is_written}
+use Rattle.dom_pages.proofs.{CellsLemmas.cells_of-written, PagesLemmas.has_page, PagesLemmas.given_out, PagesLemmas.has_cell, PagesLemmas.IsPaged-put, PageWriteLemmas.cell_at-same, PageWriteLemmas.is_written}
 use Rattle.dom_pages.proofs.pages.Pages.set.Goals as goal
 
 pub index_mut-page-requires : goal.index_mut-page-requires

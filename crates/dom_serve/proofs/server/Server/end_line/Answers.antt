@@ -1,5 +1,5 @@
 use Rattle.std.proofs.Common.{refl}
-use Rattle.dom_serve.proofs.Fed.{Breaks-answered, Stands-answered}
+use Rattle.dom_serve.proofs.FedLemmas.{Breaks-answered, Stands-answered}
 use Rattle.dom_serve.proofs.server.Server.end_line.Goals as goal
 
 pub returns-in-Err-clause-fed : goal.returns-in-Err-clause-fed

@@ -1,7 +1,7 @@
 use Rattle.std.proofs.Common.{◌∷◌, [], ◌++◌, false, arith, length-append, refl}
 use Rattle.std.proofs.lemmas.Result.{err_from_is_err_and}
-use Rattle.dom_serve.specs.{ByLine.PassesLine, ByLine.CutsLine, Tells.is_write, Tells.is_write_fault}
-use Rattle.dom_serve.proofs.{Calls.IsCalled-more, Calls.HasAnswered-more, Fed.line_ahead, Fed.Fed-line, Fed.Breaks-line, Fed.Fed-rest}
+use Rattle.dom_serve.specs.{ByLine.PassesLine, ByLine.CutsLine, Output.is_write, Output.is_write_fault}
+use Rattle.dom_serve.proofs.{IsCalledLemmas.IsCalled-more, IsCalledLemmas.HasAnswered-more, FedLemmas.line_ahead, FedLemmas.Fed-line, FedLemmas.Breaks-line, FedLemmas.Fed-rest}
 use Rattle.dom_serve.proofs.server.Server.feed_all.Goals as goal
 
 pub loop-line-preserved : goal.loop-line-preserved

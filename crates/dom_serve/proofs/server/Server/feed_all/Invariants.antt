@@ -1,7 +1,7 @@
 use Rattle.std.proofs.Common.{◌≡◌, ℕ, ◌+◌, ◌≤◌, false, List, ◌++◌, length}
 use Rattle.dom_model.specs.Definitions.{Bounds}
 use Rattle.dom_model.specs.{Commands.Table.whole_table, Commands.Output.due}
-use Rattle.dom_serve.specs.{Calls.HasAnswered, Calls.IsWritten, ByLine.IsWrittenByLine, Server.Stands, Server.Grows}
+use Rattle.dom_serve.specs.{Calls.HasAnswered, Calls.IsWritten, ByLine.IsWrittenByLine, Server.IsServerAfter, Server.Grows}
 use Rattle.dom_serve.proofs.server.Server.feed_all.Given as goal
 
 abbrev pub invariant-loop-line : goal.invariant-loop-line
@@ -12,7 +12,7 @@ invariant-loop-line g l = record {
   front : List ℕ;
   whole : l.piece ≡ front ++ l.rest;
   lines : l.self.lines ≤ l.fn.self.lines + length front;
-  so_far : (b : Bounds) (bytes : List ℕ) → Stands b bytes l.fn.self → Stands b (bytes ++ front) l.self
+  so_far : (b : Bounds) (bytes : List ℕ) → IsServerAfter b bytes l.fn.self → IsServerAfter b (bytes ++ front) l.self
       × Grows (due whole_table b bytes false) (due whole_table b (bytes ++ front) false) (g.W.Sink.writing.taken l.fn.writer) (g.W.Sink.writing.taken l.writer);
 }
 

@@ -1,7 +1,7 @@
 use Rattle.std.proofs.Common.{◌++◌}
 use Rattle.std.proofs.lemmas.Result.{err_from_is_err_and}
-use Rattle.dom_serve.specs.{ByLine.PassesLine, ByLine.CutsLine, Tells.is_write_fault}
-use Rattle.dom_serve.proofs.{Calls.IsCalled-more, Fed.Breaks-early, Fed.Fed-more}
+use Rattle.dom_serve.specs.{ByLine.PassesLine, ByLine.CutsLine, Output.is_write_fault}
+use Rattle.dom_serve.proofs.{IsCalledLemmas.IsCalled-more, FedLemmas.Breaks-early, FedLemmas.Fed-more}
 use Rattle.dom_serve.proofs.server.Server.feed_line.Goals as goal
 
 pub returns-in_err-keep-clause-fed : goal.returns-in_err-keep-clause-fed

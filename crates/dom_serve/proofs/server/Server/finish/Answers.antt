@@ -1,6 +1,6 @@
 use Rattle.std.proofs.Common.{sym, ◌∙◌, inl, inr, tests, rules}
 use Rattle.std.proofs.lemmas.Bool.{eqb-true}
-use Rattle.dom_serve.proofs.Fed.{Finishes-fed, Finishes-none, length-zero, some-items}
+use Rattle.dom_serve.proofs.FedLemmas.{Finishes-fed, Finishes-none, length-zero, some-items}
 use Rattle.dom_serve.proofs.server.Server.finish.Goals as goal
 
 pub returns-then-self-clause-finishes : goal.returns-then-self-clause-finishes

@@ -1,5 +1,5 @@
 use Rattle.std.proofs.Common.{refl, arith}
-use Rattle.dom_serve.proofs.Fed.{Stands-part, Breaks-part, holds-longer, holds-too_long, holds-more}
+use Rattle.dom_serve.proofs.FedLemmas.{Stands-part, Breaks-part, holds-longer, holds-too_long, holds-more}
 use Rattle.dom_serve.proofs.server.Server.keep.Goals as goal
 
 pub returns-then-self-clause-fed : goal.returns-then-self-clause-fed

@@ -1,6 +1,6 @@
 use Rattle.std.proofs.Common.{refl}
 use Rattle.dom_wire.specs.Sessions.{bounds_of}
-use Rattle.dom_serve.proofs.Fed.{Stands-new}
+use Rattle.dom_serve.proofs.FedLemmas.{Stands-new}
 use Rattle.dom_serve.proofs.server.Server.new.Goals as goal
 
 pub returns-clause-stands : goal.returns-clause-stands

@@ -1,7 +1,7 @@
 use Rattle.std.proofs.Common.{◌≡◌, true, false, ap, tests, rules}
 use Rattle.dom_edit.specs.declared.world.World.{World}
-use Rattle.dom_session.specs.{Bounding.bounds_of, Limiting.numbered, Views.command_view, GoingOn.goes_on}
-use Rattle.dom_session.proofs.{Applying.IsShown-step, Applying.IsAnswered-step, WorldsKept.left_ended, WorldsKept.left_open, GoingOn.as_before, GoingOn.as_before-world, GoingOn.shown_as, GoingOn.going-asked}
+use Rattle.dom_session.specs.{SessionBounds.bounds_of, AnswerBounds.numbered, Views.command_view, GoingOn.goes_on}
+use Rattle.dom_session.proofs.{IsStepLemmas.IsShown-step, IsStepLemmas.IsAnswered-step, KeepsWholeWorldLemmas.left_ended, KeepsWholeWorldLemmas.left_open, GoingOn.as_before, GoingOn.as_before-world, GoingOn.shown_as, GoingOn.going-asked}
 use Rattle.dom_session.proofs.session.Session.apply.Goals as goal
 
 pub invariant_of-self : goal.invariant_of-self

@@ -1,7 +1,7 @@
 use Rattle.std.proofs.Common.{◌≡◌, false, refl}
 use Rattle.dom_model.specs.Definitions.{CreateText}
-use Rattle.dom_session.specs.{Bounding.bounds_of, Brief.reply_of, Limiting.numbered}
-use Rattle.dom_session.proofs.{Applying.IsShown-step, Applying.IsAnswered-by, WorldsKept.left_open, GoingOn.as_before, GoingOn.as_before-world, GoingOn.shown_as}
+use Rattle.dom_session.specs.{SessionBounds.bounds_of, Brief.reply_of, AnswerBounds.numbered}
+use Rattle.dom_session.proofs.{IsStepLemmas.IsShown-step, IsStepLemmas.IsAnswered-by, KeepsWholeWorldLemmas.left_open, GoingOn.as_before, GoingOn.as_before-world, GoingOn.shown_as}
 use Rattle.dom_session.proofs.session.Session.create_text.Goals as goal
 
 pub invariant_of-self : goal.invariant_of-self

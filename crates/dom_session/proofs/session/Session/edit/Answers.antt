@@ -1,7 +1,7 @@
 use Rattle.std.proofs.Common.{◌≡◌, false, ap}
 use Rattle.dom_edit.specs.declared.world.World.{World}
-use Rattle.dom_session.specs.{Stands.Held, Bounding.bounds_of, Limiting.numbered, Brief.reply_of, Views.editing_view}
-use Rattle.dom_session.proofs.Applying.{IsShown-step, IsAnswered-editing}
+use Rattle.dom_session.specs.{SessionViews.SessionView, SessionBounds.bounds_of, AnswerBounds.numbered, Brief.reply_of, Views.editing_view}
+use Rattle.dom_session.proofs.IsStepLemmas.{IsShown-step, IsAnswered-editing}
 use Rattle.dom_session.proofs.session.Session.edit.Goals as goal
 
 pub invariant_of-self : goal.invariant_of-self
@@ -19,6 +19,6 @@ returns-clause-answers c =
 
 pub returns-clause-refused : goal.returns-clause-refused
 returns-clause-refused c r =
-    let with_world : World → Held = λ v. record { world = v; bounds = bounds_of c.self.inside.limits; ended = c.self.inside.ended } in
+    let with_world : World → SessionView = λ v. record { world = v; bounds = bounds_of c.self.inside.limits; ended = c.self.inside.ended } in
     rw (← c.self.view_is)
     (ap with_world ((c.in-Ok.ensures.step (numbered c.self.inside.limits.numbers)).refused r))

@@ -1,8 +1,8 @@
 use Rattle.std.proofs.Common.{◌≡◌, false, refl, ap}
 use Rattle.dom_model.specs.Definitions.{NextNode}
 use Rattle.dom_edit.specs.declared.world.World.{World}
-use Rattle.dom_session.specs.{Stands.Held, Bounding.bounds_of, Brief.reply_of, Limiting.numbered}
-use Rattle.dom_session.proofs.Applying.{IsShown-step, IsAnswered-by}
+use Rattle.dom_session.specs.{SessionViews.SessionView, SessionBounds.bounds_of, Brief.reply_of, AnswerBounds.numbered}
+use Rattle.dom_session.proofs.IsStepLemmas.{IsShown-step, IsAnswered-by}
 use Rattle.dom_session.proofs.session.Session.next_node.Goals as goal
 
 pub invariant_of-self : goal.invariant_of-self
@@ -20,6 +20,6 @@ returns-clause-answers c =
 
 pub returns-clause-refused : goal.returns-clause-refused
 returns-clause-refused c r =
-    let with_world : World → Held = λ v. record { world = v; bounds = bounds_of c.self.inside.limits; ended = c.self.inside.ended } in
+    let with_world : World → SessionView = λ v. record { world = v; bounds = bounds_of c.self.inside.limits; ended = c.self.inside.ended } in
     rw (← c.self.view_is)
     (ap with_world ((c.next_node.ensures.step (numbered c.self.inside.limits.numbers)).refused r))

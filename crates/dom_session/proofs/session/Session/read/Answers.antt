@@ -1,6 +1,6 @@
 use Rattle.std.proofs.Common.{◌≡◌, ap}
 use Rattle.dom_edit.specs.declared.world.World.{World}
-use Rattle.dom_session.specs.{Stands.Held, Bounding.bounds_of}
+use Rattle.dom_session.specs.{SessionViews.SessionView, SessionBounds.bounds_of}
 use Rattle.dom_session.proofs.session.Session.read.Goals as goal
 
 pub invariant_of-self : goal.invariant_of-self
@@ -16,5 +16,5 @@ returns-clause-own c = rw (← c.self.view_is) (c.read.ensures.own (bounds_of c.
 
 pub returns-clause-unchanged : goal.returns-clause-unchanged
 returns-clause-unchanged c =
-    let with_world : World → Held = λ v. record { world = v; bounds = bounds_of c.self.inside.limits; ended = c.self.inside.ended } in
+    let with_world : World → SessionView = λ v. record { world = v; bounds = bounds_of c.self.inside.limits; ended = c.self.inside.ended } in
     rw (← c.self.view_is) (ap with_world c.read.ensures.unchanged)

@@ -1,4 +1,4 @@
-use Rattle.dom_session.specs.Bounding.{bounds_of}
+use Rattle.dom_session.specs.SessionBounds.{bounds_of}
 use Rattle.dom_session.proofs.session.Session.read_attribute.Goals as goal
 
 pub returns-clause-answers : goal.returns-clause-answers

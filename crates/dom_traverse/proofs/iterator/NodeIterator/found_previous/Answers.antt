@@ -1,7 +1,7 @@
 -- The iterator stands inside its root.
 use Rattle.std.proofs.Common.{◌≡◌, true, sym, subst}
 use Rattle.dom_model.specs.Definitions.{among, HasNode, ancestors, Iterator}
-use Rattle.dom_traverse.proofs.Stances.{reference-there, reference-under}
+use Rattle.dom_traverse.proofs.StandAtReferencesLemmas.{reference-there, reference-under}
 use Rattle.dom_traverse.proofs.iterator.NodeIterator.found_previous.Goals as goal
 
 pub accepts_number-requires : goal.accepts_number-requires

@@ -1,7 +1,7 @@
 -- A reference inside goes by the exits of its root.
 use Rattle.std.proofs.Common.{ap, ◌∙◌}
 use Rattle.dom_model.specs.Definitions.{Iterator}
-use Rattle.dom_traverse.proofs.Exiting.{goes}
+use Rattle.dom_traverse.proofs.IsExitLemmas.{goes}
 use Rattle.dom_traverse.proofs.iterator.NodeIterator.leave.Goals as goal
 
 pub returns-clause-moved : goal.returns-clause-moved

@@ -2,7 +2,7 @@
 use Rattle.std.proofs.Common.{false, ap, ◌∙◌}
 use Rattle.dom_model.specs.Definitions.{Iterator, next_found}
 use Rattle.dom_model.proofs.Soundness.SoundTraversalSteps.{root-moved}
-use Rattle.dom_traverse.proofs.Found.{found-left}
+use Rattle.dom_traverse.proofs.LocatedLemmas.{found-left}
 use Rattle.dom_traverse.proofs.iterators.NodeIterators.next.Goals as goal
 
 pub invariant_of-located : goal.invariant_of-located

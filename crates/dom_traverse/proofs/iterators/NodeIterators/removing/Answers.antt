@@ -2,8 +2,8 @@
 use Rattle.std.proofs.Common.{map, option_map, ap, ◌∙◌}
 use Rattle.dom_model.specs.Definitions.{Iterator, pre_removed}
 use Rattle.dom_slots.specs.Slotted.{by_slot}
-use Rattle.dom_slots.proofs.Entries.{by_slot-map}
-use Rattle.dom_traverse.proofs.{Found.found-each, StepsOff.root-stays}
+use Rattle.dom_slots.proofs.SlotEntryLemmas.{by_slot-map}
+use Rattle.dom_traverse.proofs.{LocatedLemmas.found-each, PreRemovedLemmas.root-stays}
 use Rattle.dom_traverse.proofs.iterators.NodeIterators.removing.Goals as goal
 
 pub removing-requires-clause-stand : goal.removing-requires-clause-stand

@@ -1,7 +1,7 @@
 -- The item has the next number, and stands at its root.
 use Rattle.std.proofs.Common.{[], ◌∷◌, ◌++◌, length, ap, sym, ◌∙◌, arith}
-use Rattle.dom_slots.proofs.{Entries.length-by_slot, Live.items_few}
-use Rattle.dom_traverse.proofs.Found.{found-few, found-more}
+use Rattle.dom_slots.proofs.{SlotEntryLemmas.length-by_slot, LiveEntryLemmas.items_few}
+use Rattle.dom_traverse.proofs.LocatedLemmas.{found-few, found-more}
 use Rattle.dom_traverse.proofs.located.Located.add.Goals as goal
 
 pub add-requires : goal.add-requires

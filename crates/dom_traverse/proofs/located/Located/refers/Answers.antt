@@ -2,8 +2,8 @@
 use Rattle.std.proofs.Common.{ℕ, Bool, ap, ◌∙◌}
 use Rattle.std.specs.List.{list_any, flat_map}
 use Rattle.dom_model.specs.Definitions.{among, inclusive_descendants, nodes_unless_released}
-use Rattle.dom_traverse.specs.Naming.{named_by}
-use Rattle.dom_traverse.proofs.{BySlot.any-entry, Found.found-names, CatchingUp.told-none}
+use Rattle.dom_traverse.specs.NamedNodes.{named_by}
+use Rattle.dom_traverse.proofs.{BySlotLemmas.any-entry, LocatedLemmas.found-names, FlushLemmas.told-none}
 use Rattle.dom_traverse.proofs.located.Located.refers.Goals as goal
 
 pub returns-then-is_some : goal.returns-then-is_some

@@ -1,5 +1,5 @@
 -- The item that was there names its nodes no more, and the last lies in its slot.
-use Rattle.dom_traverse.proofs.Found.{root-counted, found-fewer}
+use Rattle.dom_traverse.proofs.LocatedLemmas.{root-counted, found-fewer}
 use Rattle.dom_traverse.proofs.located.Located.release.Goals as goal
 
 pub unname-requires : goal.unname-requires

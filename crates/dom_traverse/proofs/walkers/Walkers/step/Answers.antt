@@ -1,7 +1,7 @@
 -- The walker in the slot of the number; it waits from then on.
 use Rattle.std.proofs.Common.{ap, ◌∙◌}
 use Rattle.dom_model.specs.Definitions.{Walker, walk_found}
-use Rattle.dom_traverse.proofs.{Found.found-left, Found.moved-walker_root}
+use Rattle.dom_traverse.proofs.{LocatedLemmas.found-left, LocatedLemmas.moved-walker_root}
 use Rattle.dom_traverse.proofs.walkers.Walkers.step.Goals as goal
 
 pub invariant_of-located : goal.invariant_of-located

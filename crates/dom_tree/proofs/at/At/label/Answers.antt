@@ -1,6 +1,6 @@
 -- The value at the place is the node's.
 use Rattle.dom_model.specs.Definitions.{Node}
-use Rattle.dom_tree.proofs.Spots.{value-spot}
+use Rattle.dom_tree.proofs.SpotLemmas.{value-spot}
 use Rattle.dom_tree.proofs.at.At.label.Goals as goal
 
 pub returns : goal.returns

@@ -3,7 +3,7 @@ use Rattle.std.proofs.Common.{ap, ◌∙◌}
 use Rattle.dom_model.specs.Definitions.{last_of, inclusive_descendants}
 use Rattle.dom_model.proofs.Forests.TreeOrder.Ending.{last-leaf, last-down}
 use Rattle.dom_tree.specs.Places.{called}
-use Rattle.dom_tree.proofs.{Spots.tree-is, Spots.node-is, Steps.stands, Steps.down_last, Steps.leaf, Steps.led}
+use Rattle.dom_tree.proofs.{SpotLemmas.tree-is, SpotLemmas.node-is, PlaceWalkLemmas.stands, PlaceWalkLemmas.down_last, PlaceWalkLemmas.leaf, PlaceWalkLemmas.led}
 use Rattle.dom_tree.proofs.at.At.last_inside.Goals as goal
 
 pub loop-last-init : goal.loop-last-init

@@ -1,7 +1,7 @@
 -- What the links say by place, by number.
 use Rattle.std.proofs.Common.{◌≡◌, None, option_map, rules, ap, sym, ◌∙◌}
 use Rattle.dom_tree.specs.{Places.called, Spots.node_at}
-use Rattle.dom_tree.proofs.Spots.{next-spot}
+use Rattle.dom_tree.proofs.SpotLemmas.{next-spot}
 use Rattle.dom_tree.proofs.at.At.next.Goals as goal
 
 pub returns-in_err-place-clause-node : goal.returns-in_err-place-clause-node

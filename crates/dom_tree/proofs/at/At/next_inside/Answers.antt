@@ -4,7 +4,7 @@ use Rattle.std.proofs.lemmas.Bool.{not-true, not-false, eqb-true, eqb-false}
 use Rattle.dom_model.specs.Definitions.{occurs, tree_at}
 use Rattle.dom_model.proofs.Forests.{Above.above, ToTheRoot.shorter, ToTheRoot.inside, TreeOrder.Ordering.past, TreeOrder.Stepping.first-after, TreeOrder.Stepping.none-after, TreeOrder.Stepping.tree-next, TreeOrder.Stepping.tree-up, TreeOrder.Stepping.tree-top, TreeOrder.Stepping.tree-parent}
 use Rattle.dom_tree.specs.Places.{called}
-use Rattle.dom_tree.proofs.{Spots.tree-is, Spots.node-is, Spots.first-spot, Steps.stands, Steps.up, Steps.parented, Steps.on, Steps.hindmost, Steps.led}
+use Rattle.dom_tree.proofs.{SpotLemmas.tree-is, SpotLemmas.node-is, SpotLemmas.first-spot, PlaceWalkLemmas.stands, PlaceWalkLemmas.up, PlaceWalkLemmas.parented, PlaceWalkLemmas.on, PlaceWalkLemmas.hindmost, PlaceWalkLemmas.led}
 use Rattle.dom_tree.proofs.at.At.next_inside.Goals as goal
 
 pub returns-in-Some-clause-node : goal.returns-in-Some-clause-node

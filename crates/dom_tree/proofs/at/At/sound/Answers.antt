@@ -1,5 +1,5 @@
 -- The tree keeps what it keeps, and the node at the place is there.
-use Rattle.dom_tree.proofs.{Trees.forest-read, Spots.tree-is, Spots.spot-there}
+use Rattle.dom_tree.proofs.{SlotStepLemmas.forest-read, SpotLemmas.tree-is, SpotLemmas.spot-there}
 use Rattle.dom_tree.proofs.at.At.sound.Goals as goal
 
 pub returns-clause-forest : goal.returns-clause-forest

@@ -1,6 +1,6 @@
 -- The runs are those of the blocks that were made.
 use Rattle.std.proofs.Common.{refl}
-use Rattle.dom_tree.proofs.InBlocks.{runs-filled}
+use Rattle.dom_tree.proofs.BlockCountLemmas.{runs-filled}
 use Rattle.dom_tree.proofs.block_counts.BlockCounts.fill.Goals as goal
 
 pub invariant_of-self-2 : goal.invariant_of-self-2

@@ -1,7 +1,7 @@
 -- The run of a block follows it, where any block is left.
 use Rattle.std.proofs.Common.{◌/◌, ◌<◌, length, ap, sym, ◌∙◌, subst, arith}
 use Rattle.dom_tree.specs.Blocks.{raised, AreRuns}
-use Rattle.dom_tree.proofs.InBlocks.{some-left, runs-raised}
+use Rattle.dom_tree.proofs.BlockCountLemmas.{some-left, runs-raised}
 use Rattle.dom_tree.proofs.block_counts.BlockCounts.raise.Goals as goal
 
 pub invariant_of-self-else-is_empty : goal.invariant_of-self-else-is_empty

@@ -1,8 +1,8 @@
 -- What is left begins with the number of the node at the place, and goes on from the sibling after it.
 use Rattle.std.proofs.Common.{length, sym, ap, ◌∙◌, rules}
 use Rattle.dom_links.specs.Placed.{slot_of, slots_of}
-use Rattle.dom_tree.specs.Following.{numbers_from}
-use Rattle.dom_tree.proofs.Following.{next-placed, numbers-next}
+use Rattle.dom_tree.specs.ChildrenFrom.{numbers_from}
+use Rattle.dom_tree.proofs.ChildrenFromLemmas.{next-placed, numbers-next}
 use Rattle.dom_tree.proofs.children.ChildrenIterator.next.Goals as goal
 
 pub next-self-inside-requires : goal.next-self-inside-requires

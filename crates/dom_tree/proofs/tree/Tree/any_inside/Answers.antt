@@ -1,7 +1,7 @@
 -- Each step asks one node.
 use Rattle.std.proofs.Common.{length, refl, sym, ap, ◌∙◌, arith}
 use Rattle.dom_model.proofs.Forests.TreeOrder.InsideWalks.{at-top, at-next, from-top, smaller}
-use Rattle.dom_tree.proofs.{Asking.asking-top, Asking.asking-next, Asking.asking-found, Asking.asking-end, Asking.asking-stops, Passing.some_left}
+use Rattle.dom_tree.proofs.{FirstFoundLemmas.asking-top, FirstFoundLemmas.asking-next, FirstFoundLemmas.asking-found, FirstFoundLemmas.asking-end, FirstFoundLemmas.asking-stops, DescendantWalkLemmas.some_left}
 use Rattle.dom_tree.proofs.tree.Tree.any_inside.Goals as goal
 
 pub loop-step-init : goal.loop-step-init

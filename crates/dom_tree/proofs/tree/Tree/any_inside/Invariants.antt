@@ -2,7 +2,7 @@
 use Rattle.std.proofs.Common.{◌≡◌, ◌+◌, ◌≤◌, ℕ, Bool, length}
 use Rattle.dom_model.specs.Definitions.{from_first, inclusive_descendants}
 use Rattle.dom_model.proofs.Forests.TreeOrder.InsideWalks.{IsAt}
-use Rattle.dom_tree.proofs.Asking.{IsAsking}
+use Rattle.dom_tree.proofs.FirstFoundLemmas.{IsAsking}
 use Rattle.dom_tree.proofs.tree.Tree.any_inside.Given as goal
 
 abbrev pub invariant-loop-step : goal.invariant-loop-step

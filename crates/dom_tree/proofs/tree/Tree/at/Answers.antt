@@ -1,6 +1,6 @@
 -- The place of the number.
 use Rattle.std.proofs.Common.{refl}
-use Rattle.dom_tree.proofs.Places.{place-held}
+use Rattle.dom_tree.proofs.PlaceTableLemmas.{place-held}
 use Rattle.dom_tree.proofs.tree.Tree.at.Goals as goal
 
 pub place_of-requires : goal.place_of-requires

@@ -3,7 +3,7 @@ use Rattle.std.proofs.Common.{refl}
 use Rattle.dom_model.specs.Definitions.{Node, with_node}
 use Rattle.dom_links.specs.Placed.{slot_of}
 use Rattle.dom_tree.specs.Bodies.{with_body, bodied_at}
-use Rattle.dom_tree.proofs.{BlocksKept.blocked-altered, TalliesKept.tallied-kept, Trees.alter-done, Trees.keeps-shown, Trees.part-read, OwnedTrees.alter-tree, Places.place-held, Places.slot-led, Places.seated}
+use Rattle.dom_tree.proofs.{BlocksKept.blocked-altered, TalliesSoundLemmas.tallied-kept, SlotStepLemmas.alter-done, SlotStepLemmas.keeps-shown, SlotStepLemmas.part-read, OwnedTrees.alter-tree, PlaceTableLemmas.place-held, PlaceTableLemmas.slot-led, PlaceTableLemmas.seated}
 use Rattle.dom_tree.proofs.tree.Tree.body_mut.Goals as goal
 
 pub place_of-place-requires : goal.place_of-place-requires

@@ -2,7 +2,7 @@
 use Rattle.std.proofs.Common.{◌≡◌, suc, ◌+◌, Some, None, sym, ap, ◌∙◌, arith, slice_get}
 use Rattle.dom_model.specs.Definitions.{children_of}
 use Rattle.dom_model.proofs.Forests.Siblings.{child-next, child-held, get-past}
-use Rattle.dom_tree.proofs.{Places.place-held, Steps.begins, Steps.on, Steps.hindmost, Steps.led}
+use Rattle.dom_tree.proofs.{PlaceTableLemmas.place-held, PlaceWalkLemmas.begins, PlaceWalkLemmas.on, PlaceWalkLemmas.hindmost, PlaceWalkLemmas.led}
 use Rattle.dom_tree.specs.Places.{called}
 use Rattle.dom_tree.proofs.tree.Tree.child_after.Goals as goal
 

@@ -2,7 +2,7 @@
 use Rattle.std.proofs.Common.{◌≡◌, suc, ◌+◌, ◌-◌, Some, None, sym, ap, ◌∙◌, arith, slice_get}
 use Rattle.dom_model.specs.Definitions.{children_of}
 use Rattle.dom_model.proofs.Forests.Siblings.{child-held, get-past}
-use Rattle.dom_tree.proofs.{Beside.child-back, Places.place-held, Steps.begins, Steps.back, Steps.foremost, Steps.led}
+use Rattle.dom_tree.proofs.{SiblingLemmas.child-back, PlaceTableLemmas.place-held, PlaceWalkLemmas.begins, PlaceWalkLemmas.back, PlaceWalkLemmas.foremost, PlaceWalkLemmas.led}
 use Rattle.dom_tree.specs.Places.{called}
 use Rattle.dom_tree.proofs.tree.Tree.child_before.Goals as goal
 

@@ -2,7 +2,7 @@
 use Rattle.std.proofs.Common.{◌≡◌, suc, None, sym, ap, ◌∙◌, add-one, arith, refl, slice_get}
 use Rattle.dom_model.specs.Definitions.{head_of, children_of}
 use Rattle.dom_model.proofs.Forests.Siblings.{child-next, get-past, get-head}
-use Rattle.dom_tree.proofs.{Places.place-held, Steps.begins, Steps.down, Steps.childless, Steps.on, Steps.hindmost, Steps.led}
+use Rattle.dom_tree.proofs.{PlaceTableLemmas.place-held, PlaceWalkLemmas.begins, PlaceWalkLemmas.down, PlaceWalkLemmas.childless, PlaceWalkLemmas.on, PlaceWalkLemmas.hindmost, PlaceWalkLemmas.led}
 use Rattle.dom_tree.specs.Places.{called}
 use Rattle.dom_tree.proofs.tree.Tree.child_from_first.Goals as goal
 

@@ -2,7 +2,7 @@
 use Rattle.std.proofs.Common.{◌≡◌, suc, ◌+◌, ◌-◌, length, None, IsSome, sym, ap, ◌∙◌, subst, arith, refl, slice_get}
 use Rattle.std.proofs.lemmas.Bool.{false≢true}
 use Rattle.dom_model.specs.Definitions.{last_of, children_of}
-use Rattle.dom_tree.proofs.{PlacesAt.get-within, Beside.get-last, Beside.child-back, Places.place-held, Steps.begins, Steps.down_last, Steps.leaf, Steps.back, Steps.foremost, Steps.led}
+use Rattle.dom_tree.proofs.{PlaceInLemmas.get-within, SiblingLemmas.get-last, SiblingLemmas.child-back, PlaceTableLemmas.place-held, PlaceWalkLemmas.begins, PlaceWalkLemmas.down_last, PlaceWalkLemmas.leaf, PlaceWalkLemmas.back, PlaceWalkLemmas.foremost, PlaceWalkLemmas.led}
 use Rattle.dom_tree.specs.Places.{called}
 use Rattle.dom_tree.proofs.tree.Tree.child_from_last.Goals as goal
 

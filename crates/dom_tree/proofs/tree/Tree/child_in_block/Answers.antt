@@ -1,5 +1,5 @@
 -- A child whose index is known stands there.
-use Rattle.dom_tree.proofs.Beside.{child-indexed, child-held_under}
+use Rattle.dom_tree.proofs.SiblingLemmas.{child-indexed, child-held_under}
 use Rattle.dom_tree.proofs.tree.Tree.child_in_block.Goals as goal
 
 pub index_within-requires : goal.index_within-requires

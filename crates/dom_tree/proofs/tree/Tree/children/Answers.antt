@@ -1,7 +1,7 @@
 -- From where the first child lies on stand all children.
 use Rattle.std.proofs.Common.{refl}
 use Rattle.dom_links.specs.Placed.{slot_of, slots_of}
-use Rattle.dom_tree.proofs.{Following.first-placed, Following.all-numbers, Places.place-held, Places.slot-led}
+use Rattle.dom_tree.proofs.{ChildrenFromLemmas.first-placed, ChildrenFromLemmas.all-numbers, PlaceTableLemmas.place-held, PlaceTableLemmas.slot-led}
 use Rattle.dom_tree.proofs.tree.Tree.children.Goals as goal
 
 pub place_of-requires : goal.place_of-requires

@@ -1,7 +1,7 @@
 -- From where the child lies on stand the children from it on.
 use Rattle.std.proofs.Common.{sym}
 use Rattle.dom_links.specs.Placed.{slots_of}
-use Rattle.dom_tree.proofs.{Following.given-child, Following.given-numbers, Places.places-held}
+use Rattle.dom_tree.proofs.{ChildrenFromLemmas.given-child, ChildrenFromLemmas.given-numbers, PlaceTableLemmas.places-held}
 use Rattle.dom_tree.proofs.tree.Tree.children_from.Goals as goal
 
 pub link_to-from-requires : goal.link_to-from-requires

@@ -4,7 +4,7 @@ use Rattle.dom_model.specs.declared.Kind.TheVariants.{Element, DocumentType}
 use Rattle.dom_model.specs.Definitions.{children_of, count_kind}
 use Rattle.dom_links.specs.Placed.{slot_of}
 use Rattle.dom_tree.specs.Tallies.{tally_in}
-use Rattle.dom_tree.proofs.{Places.place-held, Places.slot-led, TalliesKept.tally-read}
+use Rattle.dom_tree.proofs.{PlaceTableLemmas.place-held, PlaceTableLemmas.slot-led, TalliesSoundLemmas.tally-read}
 use Rattle.dom_tree.proofs.tree.Tree.children_of_kind.Goals as goal
 
 pub place_of-place-requires : goal.place_of-place-requires

@@ -3,8 +3,8 @@ use Rattle.std.proofs.Common.{◌≡◌, ◌<◌, length, Some, None, option_map
 use Rattle.dom_links.specs.Placed.{IsPlaced}
 use Rattle.dom_model.specs.Definitions.{ancestors}
 use Rattle.dom_model.proofs.Forests.{Above.above, Entries.occurs-HasNode, WaysMeeting.parent-above}
-use Rattle.dom_tree.specs.{Ways.IsOnWay, Places.called}
-use Rattle.dom_tree.proofs.{Places.place-held, Steps.begins, Steps.stands, Steps.up, Steps.parented, Steps.led, Ways.way-start, Ways.way-up}
+use Rattle.dom_tree.specs.{PathsUp.IsOnWay, Places.called}
+use Rattle.dom_tree.proofs.{PlaceTableLemmas.place-held, PlaceWalkLemmas.begins, PlaceWalkLemmas.stands, PlaceWalkLemmas.up, PlaceWalkLemmas.parented, PlaceWalkLemmas.led, PathsUpLemmas.way-start, PathsUpLemmas.way-up}
 use Rattle.dom_tree.proofs.tree.Tree.climbed.Goals as goal
 
 pub place_of-here-requires : goal.place_of-here-requires

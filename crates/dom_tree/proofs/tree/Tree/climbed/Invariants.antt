@@ -3,7 +3,7 @@ use Rattle.std.proofs.Common.{◌≡◌, ◌+◌, length, None, option_map}
 use Rattle.std.specs.Option.{ForSome}
 use Rattle.dom_model.specs.Definitions.{ancestors}
 use Rattle.dom_links.specs.Placed.{IsPlaced}
-use Rattle.dom_tree.specs.{Ways.IsOnWay, Places.called}
+use Rattle.dom_tree.specs.{PathsUp.IsOnWay, Places.called}
 use Rattle.dom_tree.proofs.tree.Tree.climbed.Given as goal
 
 abbrev pub invariant-loop-passed : goal.invariant-loop-passed

@@ -1,6 +1,6 @@
 -- As many by slot as by number.
 use Rattle.std.proofs.Common.{refl}
-use Rattle.dom_tree.proofs.{Trees.count-read, Places.place-held, Places.slot-led}
+use Rattle.dom_tree.proofs.{SlotStepLemmas.count-read, PlaceTableLemmas.place-held, PlaceTableLemmas.slot-led}
 use Rattle.dom_links.specs.Placed.{slot_of}
 use Rattle.dom_tree.proofs.tree.Tree.count.Goals as goal
 

@@ -3,7 +3,7 @@ use Rattle.std.proofs.Common.{IsSome, refl, sym, ap, ◌∙◌, subst}
 use Rattle.dom_model.specs.Definitions.{Arena, entry_at, parent_in, unlinked, cut}
 use Rattle.dom_links.specs.Placed.{Placed, index_of, slot_of}
 use Rattle.dom_tree.specs.{Slots.Kept, Blocks.AreBlocked}
-use Rattle.dom_tree.proofs.{Trees.parent-there, Trees.parent-still, Trees.cut-done, Trees.changed-shown, OwnedTrees.cut-tree, Putting.cut-blocked, TalliesKept.tallied-cut, Places.place-of_child, Places.slot-led, Places.placed-still, Places.parent-held, Places.unlinked-from, Places.seated, Places.same-places}
+use Rattle.dom_tree.proofs.{SlotStepLemmas.parent-there, SlotStepLemmas.parent-still, SlotStepLemmas.cut-done, SlotStepLemmas.changed-shown, OwnedTrees.cut-tree, PutCutLemmas.cut-blocked, TalliesSoundLemmas.tallied-cut, PlaceTableLemmas.place-of_child, PlaceTableLemmas.slot-led, PlaceTableLemmas.placed-still, PlaceTableLemmas.parent-held, PlaceTableLemmas.unlinked-from, PlaceTableLemmas.seated, PlaceTableLemmas.same-places}
 use Rattle.dom_tree.proofs.tree.Tree.cut.Goals as goal
 
 pub place_of-place-requires : goal.place_of-place-requires

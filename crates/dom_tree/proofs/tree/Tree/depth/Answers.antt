@@ -2,7 +2,7 @@
 use Rattle.std.proofs.Common.{length, ap, arith}
 use Rattle.dom_model.specs.Definitions.{ancestors}
 use Rattle.dom_model.proofs.Forests.{Above.above, Climbing.ancestors-there, Entries.occurs-HasNode, Paths.root-path, WaysMeeting.depth-size}
-use Rattle.dom_tree.proofs.{Trees.live-read, Places.place-held, Steps.begins, Steps.stands, Steps.up, Steps.topmost, Steps.led}
+use Rattle.dom_tree.proofs.{SlotStepLemmas.live-read, PlaceTableLemmas.place-held, PlaceWalkLemmas.begins, PlaceWalkLemmas.stands, PlaceWalkLemmas.up, PlaceWalkLemmas.topmost, PlaceWalkLemmas.led}
 use Rattle.dom_tree.specs.Places.{called}
 use Rattle.dom_tree.proofs.tree.Tree.depth.Goals as goal
 

@@ -1,7 +1,7 @@
 -- The value in the slot is the node's.
 use Rattle.std.proofs.Common.{refl}
 use Rattle.dom_model.specs.Definitions.{Node}
-use Rattle.dom_tree.proofs.{Trees.value-read, Places.place-held, Places.slot-led}
+use Rattle.dom_tree.proofs.{SlotStepLemmas.value-read, PlaceTableLemmas.place-held, PlaceTableLemmas.slot-led}
 use Rattle.dom_links.specs.Placed.{slot_of}
 use Rattle.dom_tree.proofs.tree.Tree.document_of.Goals as goal
 

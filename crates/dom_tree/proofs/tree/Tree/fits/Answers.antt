@@ -1,6 +1,6 @@
 -- The table has a place for each number.
 use Rattle.std.proofs.Common.{arith}
-use Rattle.dom_tree.proofs.Trees.{made-is}
+use Rattle.dom_tree.proofs.SlotStepLemmas.{made-is}
 use Rattle.dom_tree.proofs.tree.Tree.fits.Goals as goal
 
 pub returns : goal.returns

@@ -3,8 +3,8 @@ use Rattle.std.proofs.Common.{◌≡◌, Some, true, length, refl, sym, ap, ◌�
 use Rattle.std.proofs.lemmas.Bool.{eqb-true, eqb-false}
 use Rattle.dom_model.specs.Definitions.{among, entry_at, ancestors, root_of}
 use Rattle.dom_model.proofs.Forests.{Above.above, Entries.occurs-HasNode, ToTheRoot.shorter, ToTheRoot.root-above, WaysMeeting.level-parent}
-use Rattle.dom_tree.proofs.{Places.place-held, TreeOrder.among-self, TreeOrder.among-parent, TreeOrder.among-through, Steps.begins, Steps.stands, Steps.one, Steps.up, Steps.parented, Steps.led}
-use Rattle.dom_tree.specs.{Places.called, Slots.nodes_alone, Spelled.number_in_slot}
+use Rattle.dom_tree.proofs.{PlaceTableLemmas.place-held, TreeOrder.among-self, TreeOrder.among-parent, TreeOrder.among-through, PlaceWalkLemmas.begins, PlaceWalkLemmas.stands, PlaceWalkLemmas.one, PlaceWalkLemmas.up, PlaceWalkLemmas.parented, PlaceWalkLemmas.led}
+use Rattle.dom_tree.specs.{Places.called, Slots.nodes_alone, SpelledForest.number_in_slot}
 use Rattle.dom_tree.proofs.tree.Tree.fork.Goals as goal
 
 pub place_of-left-requires : goal.place_of-left-requires

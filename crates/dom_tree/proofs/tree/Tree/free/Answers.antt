@@ -1,6 +1,6 @@
 -- Each step lets go of one leaf.
 use Rattle.std.proofs.Common.{sym, ◌∙◌}
-use Rattle.dom_tree.proofs.Freeing.{freeing-start, leaf-held, leaf-bare, freeing-end, leaf-cut_held, leaf-cut_root, leaf-cut_bare, freeing-next, freeing-smaller}
+use Rattle.dom_tree.proofs.FreeLemmas.{freeing-start, leaf-held, leaf-bare, freeing-end, leaf-cut_held, leaf-cut_root, leaf-cut_bare, freeing-next, freeing-smaller}
 use Rattle.dom_tree.proofs.tree.Tree.free.Goals as goal
 
 pub loop-parent-init : goal.loop-parent-init

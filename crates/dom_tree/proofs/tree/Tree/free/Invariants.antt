@@ -1,6 +1,6 @@
 -- What is left of the tree, and where the walk stands in it.
 use Rattle.dom_model.specs.Definitions.{size}
-use Rattle.dom_tree.proofs.Freeing.{IsFreeing}
+use Rattle.dom_tree.proofs.FreeLemmas.{IsFreeing}
 use Rattle.dom_tree.proofs.tree.Tree.free.Given as goal
 
 abbrev pub invariant-loop-parent : goal.invariant-loop-parent

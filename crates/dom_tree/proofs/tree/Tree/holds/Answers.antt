@@ -1,7 +1,7 @@
 -- A number has a node where the table has a place for it.
 use Rattle.std.proofs.Common.{is_some, ap, sym, ◌∙◌}
 use Rattle.dom_pages.specs.Numbered.{item_at}
-use Rattle.dom_tree.proofs.{Trees.holds-read, Places.known-placed}
+use Rattle.dom_tree.proofs.{SlotStepLemmas.holds-read, PlaceTableLemmas.known-placed}
 use Rattle.dom_tree.proofs.tree.Tree.holds.Goals as goal
 
 pub returns : goal.returns

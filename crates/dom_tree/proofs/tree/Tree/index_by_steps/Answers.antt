@@ -3,7 +3,7 @@ use Rattle.std.proofs.Common.{◌≡◌, length, refl, sym, ap, ◌∙◌, subst
 use Rattle.dom_model.specs.Definitions.{siblings_in, entry_in, parent_of, index_of}
 use Rattle.dom_model.proofs.Forests.Siblings.{index-step, index-first, index-within}
 use Rattle.dom_links.specs.Placed.{slot_of}
-use Rattle.dom_tree.proofs.{Beside.forward-step, Beside.sides-end, Trees.kept-read, Places.place-held, Steps.begins, Steps.listed, Steps.stands, Steps.up, Steps.topmost, Steps.under, Steps.beside, Steps.on, Steps.hindmost, Steps.back, Steps.foremost, Steps.led}
+use Rattle.dom_tree.proofs.{SiblingLemmas.forward-step, SiblingLemmas.sides-end, SlotStepLemmas.kept-read, PlaceTableLemmas.place-held, PlaceWalkLemmas.begins, PlaceWalkLemmas.listed, PlaceWalkLemmas.stands, PlaceWalkLemmas.up, PlaceWalkLemmas.topmost, PlaceWalkLemmas.under, PlaceWalkLemmas.beside, PlaceWalkLemmas.on, PlaceWalkLemmas.hindmost, PlaceWalkLemmas.back, PlaceWalkLemmas.foremost, PlaceWalkLemmas.led}
 use Rattle.dom_tree.specs.Places.{called}
 use Rattle.dom_tree.proofs.tree.Tree.index_by_steps.Goals as goal
 

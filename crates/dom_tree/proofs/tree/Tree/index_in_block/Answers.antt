@@ -2,7 +2,7 @@
 use Rattle.std.proofs.Common.{◌≡◌, IfSome, ap, sym, ◌∙◌, subst}
 use Rattle.dom_model.specs.Definitions.{place_in, entry_at, list_under}
 use Rattle.dom_links.specs.Placed.{slot_of}
-use Rattle.dom_tree.proofs.{Trees.index-slots, Steps.led, Places.place-held, Places.slot-led}
+use Rattle.dom_tree.proofs.{SlotStepLemmas.index-slots, PlaceWalkLemmas.led, PlaceTableLemmas.place-held, PlaceTableLemmas.slot-led}
 use Rattle.dom_tree.proofs.tree.Tree.index_in_block.Goals as goal
 
 pub place_of-place-requires : goal.place_of-place-requires

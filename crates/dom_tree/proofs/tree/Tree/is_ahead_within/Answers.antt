@@ -3,7 +3,7 @@ use Rattle.std.proofs.Common.{refl, ap, sym, ◌∙◌, nat_lt, arith}
 use Rattle.std.proofs.lemmas.Bool.{eqb-true, eqb-false}
 use Rattle.dom_model.specs.Definitions.{parent_of, index_of}
 use Rattle.dom_model.proofs.Forests.Siblings.{index-step}
-use Rattle.dom_tree.proofs.{Beside.forward-step, Beside.index-below, Beside.ahead-met, Beside.ahead-end, Beside.ahead-on, Beside.behind-met, Beside.behind-end, Beside.behind-on, Places.place-held, Steps.begins, Steps.stands, Steps.meets, Steps.on, Steps.hindmost, Steps.back, Steps.foremost, Steps.led}
+use Rattle.dom_tree.proofs.{SiblingLemmas.forward-step, SiblingLemmas.index-below, SiblingLemmas.ahead-met, SiblingLemmas.ahead-end, SiblingLemmas.ahead-on, SiblingLemmas.behind-met, SiblingLemmas.behind-end, SiblingLemmas.behind-on, PlaceTableLemmas.place-held, PlaceWalkLemmas.begins, PlaceWalkLemmas.stands, PlaceWalkLemmas.meets, PlaceWalkLemmas.on, PlaceWalkLemmas.hindmost, PlaceWalkLemmas.back, PlaceWalkLemmas.foremost, PlaceWalkLemmas.led}
 use Rattle.dom_tree.specs.Places.{called}
 use Rattle.dom_tree.proofs.tree.Tree.is_ahead_within.Goals as goal
 

@@ -3,7 +3,7 @@ use Rattle.std.proofs.Common.{◌==◌, ap, sym, ◌∙◌, refl, is_some}
 use Rattle.std.proofs.lemmas.Bool.{not-true, not-false}
 use Rattle.dom_model.specs.Definitions.{among, ancestors}
 use Rattle.dom_model.proofs.Forests.{Above.above, ToTheRoot.shorter, ToTheRoot.among-above, ToTheRoot.among-here, ToTheRoot.among-top, ToTheRoot.inside-same}
-use Rattle.dom_tree.proofs.{Trees.holds-read, Places.place-held, Referring.nothing-under, Steps.begins, Steps.stands, Steps.meets, Steps.up, Steps.topmost, Steps.led}
+use Rattle.dom_tree.proofs.{SlotStepLemmas.holds-read, PlaceTableLemmas.place-held, RefersLemmas.nothing-under, PlaceWalkLemmas.begins, PlaceWalkLemmas.stands, PlaceWalkLemmas.meets, PlaceWalkLemmas.up, PlaceWalkLemmas.topmost, PlaceWalkLemmas.led}
 use Rattle.dom_tree.specs.Places.{called}
 use Rattle.dom_tree.proofs.tree.Tree.is_ancestor.Goals as goal
 

@@ -1,7 +1,7 @@
 -- Where there are children, the ancestors tell.
 use Rattle.std.proofs.Common.{◌≡◌, None, is_some, ap, sym, ◌∙◌, subst, refl}
 use Rattle.dom_model.specs.Definitions.{head_of, HasNode, children_of}
-use Rattle.dom_tree.proofs.{Trees.holds-read, Steps.begins, Steps.stands, Steps.childless, Steps.led, Referring.inside-none, Referring.nothing-under, Referring.inside-alone}
+use Rattle.dom_tree.proofs.{SlotStepLemmas.holds-read, PlaceWalkLemmas.begins, PlaceWalkLemmas.stands, PlaceWalkLemmas.childless, PlaceWalkLemmas.led, RefersLemmas.inside-none, RefersLemmas.nothing-under, RefersLemmas.inside-alone}
 use Rattle.dom_model.proofs.Forests.ToTheRoot.{inside-same}
 use Rattle.dom_tree.proofs.tree.Tree.is_inside.Goals as goal
 

@@ -1,6 +1,6 @@
 -- An index below the parent's count is right.
 use Rattle.std.proofs.Common.{refl, tests, rules}
-use Rattle.dom_tree.proofs.{Trees.kept-read, Places.place-held, Places.slot-led, Steps.led}
+use Rattle.dom_tree.proofs.{SlotStepLemmas.kept-read, PlaceTableLemmas.place-held, PlaceTableLemmas.slot-led, PlaceWalkLemmas.led}
 use Rattle.dom_links.specs.Placed.{slot_of}
 use Rattle.dom_tree.proofs.tree.Tree.kept_index.Goals as goal
 

@@ -2,7 +2,7 @@
 use Rattle.std.proofs.Common.{ap, ◌∙◌}
 use Rattle.dom_model.specs.Definitions.{last_of, inclusive_descendants}
 use Rattle.dom_model.proofs.Forests.TreeOrder.Ending.{last-leaf, last-down}
-use Rattle.dom_tree.proofs.{Places.place-held, Steps.begins, Steps.stands, Steps.down_last, Steps.leaf, Steps.led}
+use Rattle.dom_tree.proofs.{PlaceTableLemmas.place-held, PlaceWalkLemmas.begins, PlaceWalkLemmas.stands, PlaceWalkLemmas.down_last, PlaceWalkLemmas.leaf, PlaceWalkLemmas.led}
 use Rattle.dom_tree.specs.Places.{called}
 use Rattle.dom_tree.proofs.tree.Tree.last_inside.Goals as goal
 

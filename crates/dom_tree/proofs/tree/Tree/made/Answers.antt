@@ -1,6 +1,6 @@
 -- A place for each number.
 use Rattle.std.proofs.Common.{◌∙◌}
-use Rattle.dom_tree.proofs.Places.{made-read}
+use Rattle.dom_tree.proofs.PlaceTableLemmas.{made-read}
 use Rattle.dom_tree.proofs.tree.Tree.made.Goals as goal
 
 pub returns : goal.returns

@@ -5,7 +5,7 @@ use denote.RawPtr.{Ptr}
 use Rattle.dom_model.specs.Definitions.{Arena, added, next_slot, entry_at, Label as PlainLabel}
 use Rattle.dom_links.specs.Placed.{slots_of}
 use Rattle.dom_tree.specs.{Places.slots_in, Blocks.AreBlocked, Slots.Kept, declared.tallies.Tally.Tally, Tallies.AreStarted}
-use Rattle.dom_tree.proofs.{BlocksKept.blocked-added, TalliesKept.tallied-make, Stores.added-new, Places.made-read, Places.slots-made, Places.placed-made, Trees.made-is, Trees.made-keeps, Trees.made-shown, OwnedSteps.made-tree}
+use Rattle.dom_tree.proofs.{BlocksKept.blocked-added, TalliesSoundLemmas.tallied-make, StoreEntryLemmas.added-new, PlaceTableLemmas.made-read, PlaceTableLemmas.slots-made, PlaceTableLemmas.placed-made, SlotStepLemmas.made-is, SlotStepLemmas.made-keeps, SlotStepLemmas.made-shown, OwnedSteps.made-tree}
 use Rattle.dom_tree.proofs.tree.Tree.make_alone.Goals as goal
 
 pub invariant_of-self-2 : goal.invariant_of-self-2

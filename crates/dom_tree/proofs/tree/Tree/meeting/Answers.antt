@@ -1,8 +1,8 @@
 -- The ways meet where one node is above the other, or where they part from one depth on.
 use Rattle.std.proofs.Common.{◌≡◌, ℕ, ◌<◌, ◌≤◌, ◌-◌, Option, Some, None, sym, ◌∙◌, subst, arith, ⊎_elim}
 use Rattle.std.proofs.lemmas.Bool.{cases_lt, eqb-true, eqb-false}
-use Rattle.dom_tree.specs.Ways.{IsOnWay, AreApart}
-use Rattle.dom_tree.proofs.Ways.{way-start, way-held, way-root, way-on}
+use Rattle.dom_tree.specs.PathsUp.{IsOnWay, AreApart}
+use Rattle.dom_tree.proofs.PathsUpLemmas.{way-start, way-held, way-root, way-on}
 use Rattle.dom_tree.proofs.tree.Tree.meeting.Goals as goal
 
 -- one of two ways has taken no step yet

@@ -1,7 +1,7 @@
 -- The node document is written, and the counts of the two documents.
 use Rattle.std.proofs.Common.{true, refl, sym, ◌∙◌}
 use Rattle.std.proofs.lemmas.Bool.{false≢true}
-use Rattle.dom_tree.proofs.{Steps.led, Places.place-held, Moving.moved-placed, Moving.strayed-seated, Moving.moved-shown, Moving.former-listed, Moving.from-some, Moving.to-placed, Moving.to-few, Moving.counted-seated, Moving.counted-shown}
+use Rattle.dom_tree.proofs.{PlaceWalkLemmas.led, PlaceTableLemmas.place-held, MoveToLemmas.moved-placed, MoveToLemmas.strayed-seated, MoveToLemmas.moved-shown, MoveToLemmas.former-listed, MoveToLemmas.from-some, MoveToLemmas.to-placed, MoveToLemmas.to-few, MoveToLemmas.counted-seated, MoveToLemmas.counted-shown}
 use Rattle.dom_tree.proofs.tree.Tree.move_to.Goals as goal
 
 pub place_of-place-requires : goal.place_of-place-requires

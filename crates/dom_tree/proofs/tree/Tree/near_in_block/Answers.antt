@@ -1,5 +1,5 @@
 -- The place is one of the store's.
-use Rattle.dom_tree.proofs.Places.{place-held}
+use Rattle.dom_tree.proofs.PlaceTableLemmas.{place-held}
 use Rattle.dom_tree.proofs.tree.Tree.near_in_block.Goals as goal
 
 pub place_of-place-requires : goal.place_of-place-requires

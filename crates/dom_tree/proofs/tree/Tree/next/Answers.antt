@@ -1,7 +1,7 @@
 -- What the links say by place, by number.
 use Rattle.std.proofs.Common.{refl}
 use Rattle.dom_links.specs.Placed.{slot_of, slots_of}
-use Rattle.dom_tree.proofs.{Trees.next-read, Places.place-held, Places.slot-led, Places.numbers-led}
+use Rattle.dom_tree.proofs.{SlotStepLemmas.next-read, PlaceTableLemmas.place-held, PlaceTableLemmas.slot-led, PlaceTableLemmas.numbers-led}
 use Rattle.dom_tree.proofs.tree.Tree.next.Goals as goal
 
 pub place_of-place-requires : goal.place_of-place-requires

@@ -2,7 +2,7 @@
 use Rattle.std.proofs.Common.{ap, sym, ◌∙◌, subst}
 use Rattle.dom_model.specs.Definitions.{head_of, children_of}
 use Rattle.dom_model.proofs.Forests.{Above.above, ToTheRoot.shorter, TreeOrder.Stepping.Past, TreeOrder.Stepping.order-first, TreeOrder.Stepping.Past-start, TreeOrder.Stepping.Past-next, TreeOrder.Stepping.Past-up, TreeOrder.Stepping.Past-end}
-use Rattle.dom_tree.proofs.{Places.place-held, Steps.begins, Steps.stands, Steps.up, Steps.topmost, Steps.down, Steps.childless, Steps.on, Steps.hindmost, Steps.led}
+use Rattle.dom_tree.proofs.{PlaceTableLemmas.place-held, PlaceWalkLemmas.begins, PlaceWalkLemmas.stands, PlaceWalkLemmas.up, PlaceWalkLemmas.topmost, PlaceWalkLemmas.down, PlaceWalkLemmas.childless, PlaceWalkLemmas.on, PlaceWalkLemmas.hindmost, PlaceWalkLemmas.led}
 use Rattle.dom_tree.specs.Places.{called}
 use Rattle.dom_tree.proofs.tree.Tree.next_in_order.Goals as goal
 

@@ -3,7 +3,7 @@ use Rattle.std.proofs.Common.{◌==◌, ◌<◌, None, refl, ap, sym, ◌∙◌,
 use Rattle.std.proofs.lemmas.Bool.{not-true, not-false, eqb-true, eqb-false}
 use Rattle.dom_model.specs.Definitions.{head_of, children_of, occurs, tree_at}
 use Rattle.dom_model.proofs.Forests.{Above.above, ToTheRoot.shorter, ToTheRoot.inside, TreeOrder.Ordering.past, TreeOrder.Stepping.first-after, TreeOrder.Stepping.none-after, TreeOrder.Stepping.tree-next, TreeOrder.Stepping.tree-up, TreeOrder.Stepping.tree-top, TreeOrder.Stepping.tree-parent}
-use Rattle.dom_tree.proofs.{Places.place-held, TreeOrder.top-there, Steps.begins, Steps.stands, Steps.meets, Steps.up, Steps.parented, Steps.down, Steps.childless, Steps.on, Steps.hindmost, Steps.led}
+use Rattle.dom_tree.proofs.{PlaceTableLemmas.place-held, TreeOrder.top-there, PlaceWalkLemmas.begins, PlaceWalkLemmas.stands, PlaceWalkLemmas.meets, PlaceWalkLemmas.up, PlaceWalkLemmas.parented, PlaceWalkLemmas.down, PlaceWalkLemmas.childless, PlaceWalkLemmas.on, PlaceWalkLemmas.hindmost, PlaceWalkLemmas.led}
 use Rattle.dom_tree.specs.Places.{called}
 use Rattle.dom_tree.proofs.tree.Tree.next_inside.Goals as goal
 

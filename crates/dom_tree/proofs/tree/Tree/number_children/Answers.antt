@@ -11,8 +11,8 @@ index-index-requires g c =
     let last = c.in-Some.last in
     HasNode-occurs f last (child-there f c.sound.ensures.once last c.args.parent (hits-last_of (children_of f c.args.parent) last (sym c.last.ensures ∙ c.in-Some.is)))
 
-pub make_known-requires-clause-held : goal.make_known-requires-clause-held
-make_known-requires-clause-held g c =
+pub cache_index-requires-clause-held : goal.cache_index-requires-clause-held
+cache_index-requires-clause-held g c =
     let f = c.args.self.now.forest in
     let last = c.in-Some.last in
     HasNode-occurs f last (child-there f c.sound.ensures.once last c.args.parent (hits-last_of (children_of f c.args.parent) last (sym c.last.ensures ∙ c.in-Some.is)))

@@ -1,6 +1,6 @@
 -- The count in the slot is that of the nodes, as long as there are no strays.
 use Rattle.std.proofs.Common.{refl}
-use Rattle.dom_tree.proofs.{Places.place-held, Places.slot-led, OwnedSteps.owned-read}
+use Rattle.dom_tree.proofs.{PlaceTableLemmas.place-held, PlaceTableLemmas.slot-led, OwnedSteps.owned-read}
 use Rattle.dom_links.specs.Placed.{slot_of}
 use Rattle.dom_tree.proofs.tree.Tree.owned.Goals as goal
 

@@ -1,7 +1,7 @@
 -- A root put by place is put by number.
 use Rattle.std.proofs.Common.{refl, sym, ap}
 use Rattle.dom_links.specs.Placed.{slot_of, slots_of}
-use Rattle.dom_tree.proofs.{Trees.parent-none, Trees.parent-same, Trees.no_cycle-slots, Places.place-held, Places.places-held, Places.slot-led, Putting.put_at-seated, Putting.put_at-shown}
+use Rattle.dom_tree.proofs.{SlotStepLemmas.parent-none, SlotStepLemmas.parent-same, SlotStepLemmas.no_cycle-slots, PlaceTableLemmas.place-held, PlaceTableLemmas.places-held, PlaceTableLemmas.slot-led, PutCutLemmas.put_at-seated, PutCutLemmas.put_at-shown}
 use Rattle.dom_tree.proofs.tree.Tree.put.Goals as goal
 
 pub place_of-above-requires : goal.place_of-above-requires

@@ -1,7 +1,7 @@
 -- A leaf is put by place as any root is.
 use Rattle.std.proofs.Common.{◌≤◌, None, inl, inr, subst}
 use Rattle.dom_links.specs.Placed.{slot_of}
-use Rattle.dom_tree.proofs.{LeavesPut.led-nowhere, LeavesPut.leaf-outside, LeavesPut.leaf-may, LeavesPut.leaf-led, LeavesPut.leaf-back, LeavesPut.nowhere-held, Places.slot-led, Putting.put_at-seated, Putting.put_at-shown, Steps.led, Trees.parent-none, Trees.no_cycle-slots, Trees.count-read}
+use Rattle.dom_tree.proofs.{LeavesPut.led-nowhere, LeavesPut.leaf-outside, LeavesPut.leaf-may, LeavesPut.leaf-led, LeavesPut.leaf-back, LeavesPut.nowhere-held, PlaceTableLemmas.slot-led, PutCutLemmas.put_at-seated, PutCutLemmas.put_at-shown, PlaceWalkLemmas.led, SlotStepLemmas.parent-none, SlotStepLemmas.no_cycle-slots, SlotStepLemmas.count-read}
 use Rattle.dom_tree.proofs.tree.Tree.put_leaf.Goals as goal
 
 pub invariant_of-parent_at : goal.invariant_of-parent_at

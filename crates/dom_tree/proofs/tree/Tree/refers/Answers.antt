@@ -1,6 +1,6 @@
 -- A parent, or one number after another.
 use Rattle.std.proofs.Common.{◌≡◌, sym, ◌∙◌, arith, tests, rules}
-use Rattle.dom_tree.proofs.{Places.made-read, Referring.refers-none, Referring.refers-one, Referring.none-from}
+use Rattle.dom_tree.proofs.{PlaceTableLemmas.made-read, RefersLemmas.refers-none, RefersLemmas.refers-one, RefersLemmas.none-from}
 use Rattle.dom_tree.proofs.tree.Tree.refers.Goals as goal
 
 pub loop-number-init : goal.loop-number-init

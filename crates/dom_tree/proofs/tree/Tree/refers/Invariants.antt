@@ -1,6 +1,6 @@
 -- No number so far refers to the tree.
 use Rattle.std.proofs.Common.{◌≡◌, ℕ, ◌<◌, false}
-use Rattle.dom_tree.specs.Outside.{refers_from}
+use Rattle.dom_tree.specs.OutsideNodes.{refers_from}
 use Rattle.dom_tree.proofs.tree.Tree.refers.Given as goal
 
 abbrev pub invariant-loop-number : goal.invariant-loop-number

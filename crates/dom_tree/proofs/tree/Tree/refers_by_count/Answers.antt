@@ -1,6 +1,6 @@
 -- Each step takes the counts of one node.
 use Rattle.std.proofs.Common.{◌≡◌, sym, ◌∙◌, arith}
-use Rattle.dom_tree.proofs.ReferringByCount.{one_if, bool-one, one-few, counting-start, counting-under, counting-owned, counting-inside, counting-smaller, counting-next, counting-end}
+use Rattle.dom_tree.proofs.RefersByCountLemmas.{one_if, bool-one, one-few, counting-start, counting-under, counting-owned, counting-inside, counting-smaller, counting-next, counting-end}
 use Rattle.dom_tree.proofs.tree.Tree.refers_by_count.Goals as goal
 
 pub loop-owned-init : goal.loop-owned-init

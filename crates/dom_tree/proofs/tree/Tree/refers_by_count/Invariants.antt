@@ -1,7 +1,7 @@
 -- How far the counts have been taken, and where the walk stands.
 use Rattle.std.proofs.Common.{length}
 use Rattle.dom_model.specs.Definitions.{from_first, inclusive_descendants}
-use Rattle.dom_tree.proofs.ReferringByCount.{IsCounting}
+use Rattle.dom_tree.proofs.RefersByCountLemmas.{IsCounting}
 use Rattle.dom_tree.proofs.tree.Tree.refers_by_count.Given as goal
 
 abbrev pub invariant-loop-owned : goal.invariant-loop-owned

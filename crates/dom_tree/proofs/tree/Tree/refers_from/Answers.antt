@@ -1,7 +1,7 @@
 -- A node is in the tree where the top is an ancestor.
 use Rattle.std.proofs.Common.{true, false, not, sym, ap, ◌∙◌}
 use Rattle.dom_model.proofs.Forests.ToTheRoot.{inside-same}
-use Rattle.dom_tree.proofs.Referring.{inside-none, refers-document}
+use Rattle.dom_tree.proofs.RefersLemmas.{inside-none, refers-document}
 use Rattle.dom_tree.proofs.tree.Tree.refers_from.Goals as goal
 
 pub returns-then-not-holds-2 : goal.returns-then-not-holds-2

@@ -1,6 +1,6 @@
 -- Each step sets one document, of the node that is next in tree order.
 use Rattle.std.proofs.Common.{sym, ◌∙◌}
-use Rattle.dom_tree.proofs.Adopting.{Adopts-start, Adopts-there, Adopts-under, Adopts-smaller, Adopts-next, Adopts-end}
+use Rattle.dom_tree.proofs.SetDocumentLemmas.{Adopts-start, Adopts-there, Adopts-under, Adopts-smaller, Adopts-next, Adopts-end}
 use Rattle.dom_tree.proofs.tree.Tree.set_document.Goals as goal
 
 pub loop-next-init : goal.loop-next-init

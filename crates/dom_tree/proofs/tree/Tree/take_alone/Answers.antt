@@ -1,8 +1,8 @@
 -- The root's slot is emptied, and its place in the table.
 use Rattle.std.proofs.Common.{Some, None, slice_set, refl, sym, ap, ◌∙◌, subst, arith}
 use Rattle.dom_model.specs.Definitions.{Arena, entry_at, Grove, parent_of, children_of}
-use Rattle.dom_tree.specs.{Blocks.AreBlocked, Slots.Kept, Owned.document_in, Places.slots_in, Tallies.tally_but}
-use Rattle.dom_tree.proofs.{BlocksKept.blocked-taken, TalliesKept.tallied-take, Trees.held-slot, Trees.parent-none, Trees.children-none, Trees.take-live, Trees.take-done, Trees.take-shown, DocumentsKept.document-HasNode, OwnedSteps.taken-known, OwnedSteps.taken-tree, Places.place-held, Places.slot-led, Places.slots-taken, Places.placed-taken, Places.within}
+use Rattle.dom_tree.specs.{Blocks.AreBlocked, Slots.Kept, NodeDocuments.document_in, Places.slots_in, Tallies.tally_but}
+use Rattle.dom_tree.proofs.{BlocksKept.blocked-taken, TalliesSoundLemmas.tallied-take, SlotStepLemmas.held-slot, SlotStepLemmas.parent-none, SlotStepLemmas.children-none, SlotStepLemmas.take-live, SlotStepLemmas.take-done, SlotStepLemmas.take-shown, DocumentsKept.document-HasNode, OwnedSteps.taken-known, OwnedSteps.taken-tree, PlaceTableLemmas.place-held, PlaceTableLemmas.slot-led, PlaceTableLemmas.slots-taken, PlaceTableLemmas.placed-taken, PlaceTableLemmas.within}
 use Rattle.dom_tree.proofs.tree.Tree.take_alone.Goals as goal
 
 pub place_of-place-requires : goal.place_of-place-requires

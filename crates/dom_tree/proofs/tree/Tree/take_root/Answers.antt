@@ -1,7 +1,7 @@
 -- The root goes into itself first.
 use Rattle.std.proofs.Common.{refl, ap, ◌∙◌}
 use Rattle.dom_model.specs.Definitions.{Grove, parent_of, children_of, without, in_document}
-use Rattle.dom_tree.specs.Owned.{document_in}
+use Rattle.dom_tree.specs.NodeDocuments.{document_in}
 use Rattle.dom_tree.proofs.DocumentsKept.{documents-set, parent-set, children-set, without-with_node}
 use Rattle.dom_tree.proofs.tree.Tree.take_root.Goals as goal
 

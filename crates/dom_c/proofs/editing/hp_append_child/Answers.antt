@@ -1,5 +1,0 @@
-use Rattle.std.proofs.Common.{tests, rules}
-use Rattle.dom_c.proofs.editing.hp_append_child.Goals as goal
-
-pub returns : goal.returns
-returns c = search (tests, rules)

@@ -1,0 +1,22 @@
+use Rattle.std.proofs.Common.{◌≡◌, true, false, Ok}
+use Rattle.dom_session.specs.{Views.editing_view, Brief.reply_of}
+use Rattle.dom_session.proofs.GoingOn.{ending-editing}
+use Rattle.dom_c.proofs.Spared.{steps-after_end, steps-taken, steps-ended}
+use Rattle.dom_c.proofs.handle_state.HandleState.edit.Goals as goal
+
+pub returns-then-self : goal.returns-then-self
+returns-then-self c =
+    let ended : c.args.self.now.ended ≡ true = cc in
+    steps-after_end (Ok (editing_view c.args.command)) c.args.self.now ended
+
+pub returns-in-Ok : goal.returns-in-Ok
+returns-in-Ok c =
+    let on : c.args.self.now.ended ≡ false = cc in
+    rw (c.note.ensures.kept, c.note.ensures.status)
+    (steps-taken (editing_view c.args.command) c.args.self.now c.edit.new.self (reply_of c.in-Ok.reply) on c.in-Ok.ensures.answers c.in-Ok.ensures.refused c.in-Ok.ensures.open c.edit.ensures.bounds)
+
+pub returns-in-Err : goal.returns-in-Err
+returns-in-Err c =
+    rw (c.end.ensures.kept, c.end.ensures.status)
+    (steps-ended (Ok (editing_view c.args.command)) c.args.self.now c.edit.new.self c.edit.ensures.bounds
+    (λ going _. absurd (cc (going, ending-editing c.args.command))))

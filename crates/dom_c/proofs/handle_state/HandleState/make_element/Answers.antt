@@ -1,0 +1,29 @@
+use Rattle.std.proofs.Common.{◌≡◌, true, false, ap, Ok, Err}
+use Rattle.dom_model.specs.Definitions.{CreateElement}
+use Rattle.dom_session.specs.{declared.session.OutOfMemory.OutOfMemory, Brief.reply_of}
+use Rattle.dom_c.proofs.Spared.{not_ended, steps-after_end, steps-taken, steps-spared, steps-ended}
+use Rattle.dom_c.proofs.handle_state.HandleState.make_element.Goals as goal
+
+pub returns-then-self : goal.returns-then-self
+returns-then-self c =
+    let ended : c.args.self.now.ended ≡ true = cc in
+    steps-after_end (Ok (CreateElement c.args.document c.args.name.now)) c.args.self.now ended
+
+pub returns-in-Ok : goal.returns-in-Ok
+returns-in-Ok c =
+    let on : c.args.self.now.ended ≡ false = cc in
+    rw (c.note.ensures.kept, c.note.ensures.status)
+    (steps-taken (CreateElement c.args.document c.args.name.now) c.args.self.now c.create_element.new.self (reply_of c.in-Ok.reply) on c.in-Ok.ensures.answers c.in-Ok.ensures.refused c.in-Ok.ensures.open c.create_element.ensures.bounds)
+
+pub returns-in-Err-Refused : goal.returns-in-Err-Refused
+returns-in-Err-Refused c =
+    let on : c.args.self.now.ended ≡ false = cc in
+    steps-spared (Ok (CreateElement c.args.document c.args.name.now)) c.args.self.now c.create_element.new.self on
+    (c.in-Err-Refused.ensures.same (ap (λ (e : OutOfMemory). Err e) c.in-Err-Refused.field-0-is)) c.create_element.ensures.bounds
+
+pub returns-in-Err-Ended : goal.returns-in-Err-Ended
+returns-in-Err-Ended c =
+    let ended = c.in-Err-Ended.ensures.ended (ap (λ (e : OutOfMemory). Err e) c.in-Err-Ended.field-0-is) in
+    rw (c.end.ensures.kept, c.end.ensures.status)
+    (steps-ended (Ok (CreateElement c.args.document c.args.name.now)) c.args.self.now c.create_element.new.self c.create_element.ensures.bounds
+    (λ going is_open. absurd (not_ended c.args.self.now.session c.create_element.new.self c.in-Err-Ended.ensures.made is_open ended)))

@@ -1,0 +1,5 @@
+use Rattle.std.proofs.Common.{tests, rules}
+use Rattle.dom_c.proofs.tree_edits.hp_remove_child.Goals as goal
+
+pub returns : goal.returns
+returns c = search (tests, rules)

@@ -1,0 +1,163 @@
+//! Reading the last answer: its text, and its parts by their index.
+
+ghost use Rattle.std.specs.Prelude.{◌≡◌, List, ℕ, Option, length, option_map, option_and_then, slice_get, string_bytes};
+ghost use Rattle.dom_wire.specs.Sessions.{answer_view};
+ghost use Rattle.dom_c.specs.WrittenValues.{last_answer_of};
+ghost use Rattle.dom_session.specs.Neighbours.{laid_over};
+ghost use Rattle.dom_c.specs.ReplyItems.{look_up_status, looked_up, or_before, laid_or_before, item_count, numbers_in, listed_number};
+
+use crate::handle::Handle;
+use crate::handle_state::HandleState;
+use crate::status::{HP_CLOSED, HP_NOT_THERE, HP_OK, HP_OUT_OF_MEMORY};
+use dom_session::Answer;
+use dom_wire::Reply;
+
+// Returns the number of parts of an answer, if it has parts.
+fn count_of(answer: &Answer) -> Option<usize>
+    ensures { result ≡ item_count (answer_view answer.now) }
+{
+    match answer {
+        Answer::Numbers(numbers) => Some(numbers.len()),
+        Answer::Names(names) => Some(names.len()),
+        Answer::Rows(rows) => Some(rows.len()),
+        Answer::Records(records) => Some(records.len()),
+        Answer::Notified(told) => Some(told.len()),
+        _ => None,
+    }
+}
+
+fn numbers_of(answer: &Answer) -> Option<&[u32]>
+    ensures { option_map (λ numbers. numbers.now) result ≡ numbers_in (answer_view answer.now) }
+{
+    match answer {
+        Answer::Numbers(numbers) => Some(numbers.as_slice()),
+        _ => None,
+    }
+}
+
+// Copies numbers over the front of an array, as many as there is room for.
+fn lay_over(numbers: &[u32], into: &mut [u32])
+    ensures { into.new ≡ laid_over numbers.now into.old }
+{
+    let mut at = 0;
+    for number in numbers {
+        if at == into.len() {
+            return;
+        }
+        into[at] = *number;
+        at += 1;
+    }
+}
+
+fn number_of(answer: &Answer, index: usize) -> Option<u32>
+    ensures { result ≡ listed_number index (answer_view answer.now) }
+{
+    match answer {
+        Answer::Numbers(numbers) => numbers.as_slice().get(index).copied(),
+        _ => None,
+    }
+}
+
+impl HandleState {
+    fn count(&self) -> Option<usize>
+        ensures { result ≡ option_and_then item_count (last_answer_of self.now) }
+    {
+        match &self.reply {
+            Some(Reply::Done(answer)) => count_of(answer),
+            _ => None,
+        }
+    }
+
+    fn numbers(&self) -> Option<&[u32]>
+        ensures { option_map (λ numbers. numbers.now) result
+            ≡ option_and_then numbers_in (last_answer_of self.now) }
+    {
+        match &self.reply {
+            Some(Reply::Done(answer)) => numbers_of(answer),
+            _ => None,
+        }
+    }
+
+    fn listed_number(&self, index: usize) -> Option<u32>
+        ensures { result ≡ option_and_then (listed_number index) (last_answer_of self.now) }
+    {
+        match &self.reply {
+            Some(Reply::Done(answer)) => number_of(answer, index),
+            _ => None,
+        }
+    }
+}
+
+/// Writes the number of parts of the last answer: numbers, names, rows, records or notices.
+#[unsafe(no_mangle)]
+pub extern "C" fn hp_count(handle: &mut Handle, count: &mut usize) -> u8
+    ensures kept { handle.new.slot.kept ≡ handle.old.slot.kept }
+    ensures status { result ≡ look_up_status handle.old item_count }
+    ensures count { count.new ≡ or_before (looked_up handle.old item_count) count.old }
+{
+    if !handle.is_open {
+        return HP_CLOSED;
+    }
+    let kept = &handle.slot.lend().kept;
+    if kept.ended {
+        return HP_OUT_OF_MEMORY;
+    }
+    match kept.count() {
+        Some(found) => {
+            *count = found;
+            HP_OK
+        }
+        None => HP_NOT_THERE,
+    }
+}
+
+/// Writes the number at an index of the last answer.
+#[unsafe(no_mangle)]
+pub extern "C" fn hp_number_at(handle: &mut Handle, index: usize, number: &mut u32) -> u8
+    ensures kept { handle.new.slot.kept ≡ handle.old.slot.kept }
+    ensures status { result ≡ look_up_status handle.old (listed_number index) }
+    ensures number { number.new ≡ or_before (looked_up handle.old (listed_number index))
+        number.old }
+{
+    if !handle.is_open {
+        return HP_CLOSED;
+    }
+    let kept = &handle.slot.lend().kept;
+    if kept.ended {
+        return HP_OUT_OF_MEMORY;
+    }
+    match kept.listed_number(index) {
+        Some(found) => {
+            *number = found;
+            HP_OK
+        }
+        None => HP_NOT_THERE,
+    }
+}
+
+/// Copies the numbers of the last answer into an array, as many as there is room for, and writes their count, which may be larger.
+/// The rest of the array stays.
+#[unsafe(no_mangle)]
+pub extern "C" fn hp_numbers_into(handle: &mut Handle, numbers: &mut [u32], count: &mut usize) -> u8
+    ensures kept { handle.new.slot.kept ≡ handle.old.slot.kept }
+    ensures status { result ≡ look_up_status handle.old numbers_in }
+    ensures count { count.new ≡ or_before (option_map length (looked_up handle.old numbers_in))
+        count.old }
+    ensures copied { numbers.new ≡ laid_or_before (looked_up handle.old numbers_in) numbers.old }
+{
+    if !handle.is_open {
+        return HP_CLOSED;
+    }
+    let kept = &handle.slot.lend().kept;
+    if kept.ended {
+        return HP_OUT_OF_MEMORY;
+    }
+    match kept.numbers() {
+        Some(found) => {
+            lay_over(found, numbers);
+            *count = found.len();
+            HP_OK
+        }
+        None => HP_NOT_THERE,
+    }
+}

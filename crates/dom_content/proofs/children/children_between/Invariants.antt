@@ -1,9 +1,0 @@
--- The children that were passed are in the list, and the others are to come.
-use Rattle.std.proofs.Common.{◌≡◌, ◌++◌}
-use Rattle.dom_model.specs.Definitions.{children_of}
-use Rattle.dom_edit.specs.Places.{from_optional, ahead_of}
-use Rattle.dom_content.proofs.children.children_between.Given as goal
-
-abbrev pub invariant-loop-child : goal.invariant-loop-child
-invariant-loop-child l =
-    l.list.items ++ ahead_of l.until l.child-iterator ≡ ahead_of l.until (from_optional l.fn.from (children_of l.tree.forest l.fn.parent))

@@ -1,0 +1,10 @@
+-- The path begins with a child, or the point stands in the node itself.
+use Rattle.std.proofs.Common.{sym, ◌∙◌}
+use Rattle.dom_content.proofs.ChildrenBetween.{way-held, behind-some}
+use Rattle.dom_content.proofs.range_parts.child_behind.Goals as goal
+
+pub next-requires : goal.next-requires
+next-requires c = way-held c.args.tree.now.forest c.args.parent c.args.point.node c.args.path.now c.in-Some.child c.requires.way (sym c.head.ensures ∙ c.in-Some.is)
+
+pub returns-in-Some : goal.returns-in-Some
+returns-in-Some c = c.next.ensures ∙ behind-some c.args.tree.now.forest c.sound.ensures.once c.args.parent c.args.point c.args.path.now c.in-Some.child c.requires.way (sym c.head.ensures ∙ c.in-Some.is)

@@ -1,0 +1,32 @@
+-- The record of a changed attribute.
+use Rattle.std.proofs.Common.{◌∷◌, [], Some, refl, subst}
+use Rattle.std.proofs.lemmas.Result.{on_ok_weaker}
+use Rattle.dom_model.specs.Definitions.{attribute_value, Forest, entry_in, ancestors, Content, Mutation, Observing, standing_on, noted, content_in}
+use Rattle.dom_model.specs.declared.RecordType.TheVariants.{Attributes}
+use Rattle.dom_edit.specs.declared.world.World.{World}
+use Rattle.dom_edit.proofs.{KeepsNodesLemmas.one-there, AreThereLemmas.whole-named}
+use Rattle.dom_observe.specs.{ObservedNodes.nodes_of_mutation, ObservedNodes.NamesOnly, Watchers.Watches}
+use Rattle.dom_data.proofs.QueuesMutationLemmas.{follows-told}
+use Rattle.dom_data.proofs.records.queue_attribute_record.Goals as goal
+
+pub returns-clause-told : goal.returns-clause-told
+returns-clause-told c =
+    let v = c.args.world.now in
+    let n = c.args.node in
+    let name = c.args.name.now in
+    let new : World = record v { observers = c.queue_record.new.self } in
+    on_ok_weaker c.queue_record.result
+    (λ told. follows-told v new Attributes n (Some name) (λ (f : Forest Content). attribute_value name (content_in (entry_in f n)).attributes) refl
+    (subst (λ (m : Mutation). (x : Observing) → Watches v.observers x → Watches new.observers (noted (record m { standing = standing_on (ancestors m.target v.tree.forest) x.registrations }) x)) c.attribute_change-mutation.ensures told))
+    c.queue_record.ensures.queued
+
+pub returns-clause-whole : goal.returns-clause-whole
+returns-clause-whole c =
+    let v = c.args.world.now in
+    let n = c.args.node in
+    let new : World = record v { observers = c.queue_record.new.self } in
+    whole-named v new (n ∷ []) refl c.requires.whole
+    (subst (λ (m : Mutation). NamesOnly (nodes_of_mutation m) v.observers new.observers) c.attribute_change-mutation.ensures c.queue_record.ensures.names) (one-there v.tree.forest n c.requires.held)
+
+pub returns-clause-observers : goal.returns-clause-observers
+returns-clause-observers c = c.queue_record.ensures.made

@@ -1,5 +1,0 @@
-use Rattle.std.proofs.Common.{tests, rules}
-use Rattle.dom_edit.proofs.checks.check_replace.Goals as goal
-
-pub returns : goal.returns
-returns c = search (tests, rules)

@@ -1,5 +1,0 @@
-use Rattle.std.proofs.Common.{tests, rules}
-use Rattle.dom_edit.proofs.checks.kind_at.Goals as goal
-
-pub returns : goal.returns
-returns c test = search (tests, rules)

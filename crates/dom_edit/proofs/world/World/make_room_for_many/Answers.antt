@@ -1,6 +1,0 @@
-use Rattle.std.proofs.Common.{ap}
-use Rattle.dom_model.specs.Definitions.{Grove, Content}
-use Rattle.dom_edit.proofs.world.World.make_room_for_many.Goals as goal
-
-pub returns : goal.returns
-returns c = ap (λ (t : Grove Content). record c.args.self.now { tree = t }) c.make_room_for.ensures

@@ -1,8 +1,0 @@
-use Rattle.std.proofs.Common.{tests, rules}
-use Rattle.dom_observe.proofs.adding.transient_of.Goals as goal
-
-pub returns-in_ok-transient-in-Some : goal.returns-in_ok-transient-in-Some
-returns-in_ok-transient-in-Some c = search (tests, rules)
-
-pub returns-in_default : goal.returns-in_default
-returns-in_default c = search (tests, rules)

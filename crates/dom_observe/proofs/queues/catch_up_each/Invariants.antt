@@ -1,6 +1,0 @@
--- What is kept of the observers stays.
-use Rattle.std.proofs.Common.{◌≡◌}
-use Rattle.dom_observe.proofs.queues.catch_up_each.Given as goal
-
-abbrev pub invariant-loop-observer : goal.invariant-loop-observer
-invariant-loop-observer l = l.roster ≡ l.initial.roster

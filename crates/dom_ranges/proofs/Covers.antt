@@ -1,2 +1,0 @@
--- Which nodes are covered once more are: what is said of keys.
-pub use Rattle.dom_chains.proofs.Covers.{covers-to, covers-new, covered_to-length}

@@ -1,0 +1,11 @@
+use Rattle.std.proofs.Common.{ap, ◌∙◌}
+use Rattle.dom_model.specs.Definitions.{among}
+use Rattle.dom_chains.specs.Keyed.{keys_of}
+use Rattle.dom_ranges.proofs.RangeTableLemmas.{among-told}
+use Rattle.dom_ranges.proofs.live_ranges.Ranges.forget_one.Goals as goal
+
+pub forget-requires : goal.forget-requires
+forget-requires c =
+    ap (λ n. among n (keys_of c.self.inside.chains.items)) c.number.ensures
+    ∙ among-told c.sound.ensures.fit c.self.inside.chains c.self.invariant _ c.self.view_is c.args.node
+    ∙ c.requires

@@ -1,9 +1,0 @@
-use Rattle.std.proofs.Common.{tests, rules}
-use Rattle.dom_ranges.proofs.MarkingSetters.{point-stands}
-use Rattle.dom_ranges.proofs.ranges.Ranges.collapse_at.Goals as goal
-
-pub returns-clause-set : goal.returns-clause-set
-returns-clause-set c = search (tests, rules)
-
-pub returns-clause-markers : goal.returns-clause-markers
-returns-clause-markers c = point-stands _ _ _ c.requires.held _ (returns-clause-set c)

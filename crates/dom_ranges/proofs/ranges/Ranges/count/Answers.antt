@@ -1,6 +1,0 @@
-use Rattle.std.proofs.Common.{sym, ◌∙◌}
-use Rattle.dom_ranges.proofs.Tables.{live-counted}
-use Rattle.dom_ranges.proofs.ranges.Ranges.count.Goals as goal
-
-pub returns : goal.returns
-returns c = c.count.ensures ∙ sym (live-counted c.sound.ensures.fit c.self.inside.chains c.self.invariant _ c.self.view_is)

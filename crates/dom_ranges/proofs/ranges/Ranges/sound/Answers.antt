@@ -1,9 +1,0 @@
-use Rattle.std.proofs.Common.{ap, sym, ◌∙◌}
-use Rattle.dom_ranges.specs.Tables.{RangeTable, covers}
-use Rattle.dom_ranges.proofs.Tables.{among-told}
-use Rattle.dom_ranges.proofs.ranges.Ranges.sound.Goals as goal
-
-pub returns-clause-covered : goal.returns-clause-covered
-returns-clause-covered c n named =
-    ap (λ (v : RangeTable). covers v.covered n) (sym c.self.view_is)
-    ∙ c.sound-2.ensures.covered n (among-told c.sound.ensures.fit c.self.inside.chains c.self.invariant _ c.self.view_is n ∙ named)

@@ -1,6 +1,0 @@
-use Rattle.std.proofs.Common.{arith}
-use Rattle.std.proofs.lemmas.Grind.{common_steps}
-use Rattle.dom_session.proofs.comparing.intersects_node.Goals as goal
-
-pub meets-requires-clause-stands : goal.meets-requires-clause-stands
-meets-requires-clause-stands c = grind (arith, common_steps)

@@ -1,6 +1,0 @@
-use Rattle.std.proofs.Common.{length, ap, sym, ◌∙◌}
-use Rattle.dom_slots.proofs.Live.{count_by-by_slot}
-use Rattle.dom_slots.proofs.slotted.Slotted.count.Goals as goal
-
-pub returns-clause-live : goal.returns-clause-live
-returns-clause-live g c = c.len.ensures ∙ c.self.inside.items.ok.0 ∙ ap (λ v. length v.items) c.self.view_is ∙ sym (count_by-by_slot c.sound.ensures.slotted)

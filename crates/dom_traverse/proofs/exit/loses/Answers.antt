@@ -1,8 +1,0 @@
--- Where the root is another node, the ancestors tell.
-use Rattle.std.proofs.Common.{sym, ◌∙◌}
-use Rattle.dom_traverse.proofs.Descendants.{among-inside}
-use Rattle.dom_traverse.proofs.exit.loses.Goals as goal
-
-pub returns-then-ne : goal.returns-then-ne
-returns-then-ne g c =
-    rw (sym c.ne.ensures ∙ c.if-ne.true) (c.is_ancestor.ensures ∙ sym (among-inside c.args.tree.now.forest c.sound.ensures.once c.args.node c.args.root))

@@ -1,9 +1,0 @@
-use Rattle.std.proofs.Common.{Some, length, ap, sym, ◌∙◌}
-use Rattle.dom_traverse.specs.Whereabouts.{place_of, nodes_of}
-use Rattle.dom_traverse.proofs.Spreading.{none-stands}
-use Rattle.dom_traverse.proofs.whereabouts.Whereabouts.first.Goals as goal
-
-pub returns-clause-none : goal.returns-clause-none
-returns-clause-none c =
-    rw (sym c.self.view_is)
-    (none-stands (nodes_of c.self.inside.chains.items) c.self.inside.chains c.self.invariant c.args.node c.place_of-place.result c.first.result (c.place_of-place.ensures.place ∙ ap (λ k. place_of k (Some c.number.result)) c.key_count.ensures ∙ ap (λ m. place_of (length c.self.inside.chains.covered) (Some m)) c.number.ensures) c.first.ensures.none)
