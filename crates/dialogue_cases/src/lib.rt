@@ -6,6 +6,8 @@ mod bad_input;
 #[cfg(test)]
 mod cuts;
 #[cfg(test)]
+mod failing_once;
+#[cfg(test)]
 mod faults;
 #[cfg(test)]
 mod lines_and_limits;
@@ -15,8 +17,6 @@ mod memory;
 mod observers;
 #[cfg(test)]
 mod ranges;
-#[cfg(test)]
-mod failing_once;
 #[cfg(test)]
 mod refusals;
 #[cfg(test)]

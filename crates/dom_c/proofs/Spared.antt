@@ -48,13 +48,15 @@ steps-malformed malformed k on = record {
 -- a session that took the step of a command
 pub steps-taken : (c : Command) (k : HandleState) (s : SessionView) (reply : Reply) → k.ended ≡ false → ((w : World) → StandsFor k.session w → IsAnswered reply w k.session s c) → (is_refusal (reply_view reply) ≡ true → s ≡ k.session) → s.ended ≡ false → s.bounds ≡ k.session.bounds → StepsState (Ok c) k (with_reply (with_session k s) reply) (status_of (reply_view reply))
 steps-taken c k s reply on answers refused is_open bounds = record {
-  ends = subst (λ (q : Bool). Ends q (step_for k (Ok c)) k (with_reply (with_session k s) reply) (status_of (reply_view reply))) (sym on)
-      (on, inl (record {
-        reply_is = λ w stands. (answers w stands).reply_is;
-        world_is = λ w stands. (answers w stands).world_is;
-        status_is = refl;
-        refused = refused;
-      }));
+  ends = subst (λ (q : Bool). Ends q (step_for k (Ok c)) k (with_reply (with_session k s) reply) (status_of (reply_view reply))) (sym on) (
+    on,
+    inl (record {
+      reply_is = λ w stands. (answers w stands).reply_is;
+      world_is = λ w stands. (answers w stands).world_is;
+      status_is = refl;
+      refused = refused;
+    }),
+  );
   goes_on = λ _ _. refl;
   is_open = λ _ _. is_open;
   bounds = bounds;

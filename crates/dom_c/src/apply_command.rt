@@ -231,7 +231,11 @@ impl HandleState {
     }
 
     /// Makes an Element from a name that was read, or reports its fault.
-    pub(crate) fn create_element(&mut self, document: NodeId, name: Result<&str, ArgumentFault>) -> u8
+    pub(crate) fn create_element(
+        &mut self,
+        document: NodeId,
+        name: Result<&str, ArgumentFault>,
+    ) -> u8
         ensures { (c : Result (List ℕ) ℕ) → ReadsArgument (λ name. name.now) name.entry c →
             StepsState (then_make c (λ name. Ok (CreateElement document name))) self.old self.new
             result }

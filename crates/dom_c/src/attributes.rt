@@ -8,8 +8,8 @@ ghost use Rattle.dom_c.specs.Arguments.{ReadsArgument, choice_in, utf8_name, the
 ghost use Rattle.dom_c.specs.WrittenValues.{answer_of_call, as_answered, flag_out};
 
 use crate::argument_fault::ArgumentFault;
-use crate::handle::Handle;
 use crate::arguments::{choice_of, name_of, units_of};
+use crate::handle::Handle;
 use dom_session::{Attributes, NodeId};
 use dom_wire::Command;
 use std::alloc::Global;

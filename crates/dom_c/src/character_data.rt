@@ -8,8 +8,8 @@ ghost use Rattle.dom_c.specs.Arguments.{ReadsArgument};
 ghost use Rattle.dom_c.specs.WrittenValues.{answer_of_call, number_out};
 
 use crate::argument_fault::ArgumentFault;
-use crate::handle::Handle;
 use crate::arguments::units_of;
+use crate::handle::Handle;
 use dom_session::{NodeId, Texts};
 use dom_wire::Command;
 use std::alloc::Global;
@@ -57,7 +57,12 @@ pub extern "C" fn hp_append_data(handle: &mut Handle, alloc: Global, node: u32, 
 }
 
 // Reads the arguments of `hp_insert_data`.
-fn read_insert_data(alloc: Global, node: u32, offset: u32, data: &[u16]) -> Result<Command, ArgumentFault>
+fn read_insert_data(
+    alloc: Global,
+    node: u32,
+    offset: u32,
+    data: &[u16],
+) -> Result<Command, ArgumentFault>
     ensures { ReadsArgument command_view result
         (Ok (InsertData node offset data.now)) }
 {

@@ -6,9 +6,9 @@ ghost use Rattle.dom_c.specs.WrittenValues.{last_answer_of};
 ghost use Rattle.dom_c.specs.ReplyItems.{look_up_status, looked_up, or_before};
 ghost use Rattle.dom_c.specs.Rows.{own_name, doctype_id, name_part, node_name_part};
 
+use crate::borrowed_text::Bytes;
 use crate::handle::Handle;
 use crate::handle_state::HandleState;
-use crate::borrowed_text::Bytes;
 use crate::status::{HP_CLOSED, HP_NOT_THERE, HP_OK, HP_OUT_OF_MEMORY};
 use dom_session::{Answer, Kind, Label};
 use dom_wire::Reply;

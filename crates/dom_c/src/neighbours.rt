@@ -9,8 +9,8 @@ ghost use Rattle.dom_c.specs.Neighbours.{ReadsForest, node_links, links_out, fir
 
 use crate::handle::Handle;
 use crate::handle_state::HandleState;
-use crate::write_positions::{kind_number, node_number};
 use crate::status::{HP_CLOSED, HP_ENDED, HP_OK, status_of_own};
+use crate::write_positions::{kind_number, node_number};
 use dom_session::{Neighbours, NodeId};
 use dom_wire::OwnError;
 

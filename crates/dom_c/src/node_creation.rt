@@ -8,8 +8,8 @@ ghost use Rattle.dom_c.specs.Arguments.{ReadsArgument, utf8_name, then_make};
 ghost use Rattle.dom_c.specs.WrittenValues.{answer_of_call, number_out};
 
 use crate::argument_fault::ArgumentFault;
-use crate::handle::Handle;
 use crate::arguments::{lent_name, name_of, units_of};
+use crate::handle::Handle;
 use dom_session::{Making, NodeId};
 use std::alloc::Global;
 

@@ -7,9 +7,9 @@ ghost use Rattle.dom_c.specs.Arguments.{number_or_none};
 ghost use Rattle.dom_c.specs.WrittenValues.{answer_of_call, as_answered, count_out, flag_out, number_out};
 ghost use Rattle.dom_c.specs.Positions.{position_out};
 
+use crate::arguments::node_or_none;
 use crate::handle::Handle;
 use crate::positions::NodePosition;
-use crate::arguments::node_or_none;
 use dom_session::{Asking, Copying, NodeId, Reading, Texts};
 use dom_wire::Command;
 

@@ -8,11 +8,11 @@ ghost use Rattle.dom_session.specs.Neighbours.{laid_over};
 ghost use Rattle.dom_c.specs.ReplyItems.{look_up_status, looked_up, or_before, laid_or_before};
 ghost use Rattle.dom_c.specs.Records.{records_in, record_in, type_number, record_out, record_at, records_read_at, added_at, removed_at, record_name_at, old_value_at};
 
+use crate::borrowed_text::{Bytes, Text};
 use crate::handle::Handle;
 use crate::handle_state::HandleState;
-use crate::borrowed_text::{Bytes, Text};
-use crate::write_positions::node_number;
 use crate::status::{HP_CLOSED, HP_NOT_THERE, HP_OK, HP_OUT_OF_MEMORY};
+use crate::write_positions::node_number;
 use dom_session::{Answer, NodeId, Record as MutationRecord, RecordType};
 use dom_wire::Reply;
 

@@ -7,10 +7,10 @@ ghost use Rattle.dom_c.specs.WrittenValues.{last_answer_of};
 ghost use Rattle.dom_c.specs.ReplyItems.{look_up_status, looked_up, or_before};
 ghost use Rattle.dom_c.specs.Rows.{row_in, row_out, row_at, row_name_at, row_text_of, row_text_at, attribute_name_in, attribute_value_in, row_attribute_name_at, row_attribute_value_at};
 
+use crate::borrowed_text::{Bytes, Text};
 use crate::handle::Handle;
 use crate::handle_state::HandleState;
 use crate::labels::name_part;
-use crate::borrowed_text::{Bytes, Text};
 use crate::status::{HP_CLOSED, HP_NOT_THERE, HP_OK, HP_OUT_OF_MEMORY};
 use dom_kinds::NodeType;
 use dom_session::{Answer, Kind, TreeRow};

@@ -6,8 +6,8 @@ ghost use Rattle.dom_c.specs.BorrowedData.{LendsForest};
 ghost use Rattle.dom_c.specs.Subtree.{rows_told, count_told, next_told};
 
 use crate::handle::Handle;
-use crate::write_positions::{kind_number, node_number};
 use crate::status::{HP_CLOSED, HP_NOT_THERE, status_of_own};
+use crate::write_positions::{kind_number, node_number};
 use dom_session::{NodeId, NodeRow, SubtreeNode};
 
 /// A node of a subtree: its number, its parent, or `HP_NONE`, and the standard's number of its kind (`nodeType`).

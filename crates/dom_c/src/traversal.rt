@@ -10,10 +10,10 @@ ghost use Rattle.dom_c.specs.WrittenValues.{answer_of_call, as_answered, maybe_n
 ghost use Rattle.dom_c.specs.Positions.{iterator_at_out, walker_at_out};
 
 use crate::argument_fault::ArgumentFault;
+use crate::arguments::move_of;
 use crate::filters::rules_of;
 use crate::handle::Handle;
 use crate::positions::{IteratorAt, WalkerAt};
-use crate::arguments::move_of;
 use dom_session::{Filter, IteratorId, NodeId, Reading, Traversing, WalkerId};
 use dom_wire::Command;
 use std::alloc::Global;

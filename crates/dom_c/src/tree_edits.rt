@@ -7,8 +7,8 @@ ghost use Rattle.dom_c.specs.Answers.{Answers};
 ghost use Rattle.dom_c.specs.Arguments.{ReadsArgument, number_or_none};
 
 use crate::argument_fault::ArgumentFault;
-use crate::handle::Handle;
 use crate::arguments::{node_or_none, units_of};
+use crate::handle::Handle;
 use dom_session::{Editing, NodeId, Texts};
 use dom_wire::Command;
 use std::alloc::Global;

@@ -145,7 +145,11 @@ impl HandleState {
 
 impl Handle {
     /// Applies a command. Writes a number.
-    pub(crate) fn take_number(&mut self, command: Result<Command, ArgumentFault>, number: &mut u32) -> u8
+    pub(crate) fn take_number(
+        &mut self,
+        command: Result<Command, ArgumentFault>,
+        number: &mut u32,
+    ) -> u8
         ensures answers { (c : Result PlainCommand ℕ) → ReadsArgument command_view command c →
             Answers self.old self.new c result }
         ensures told { number.new ≡ number_out (answer_of_call self.new result) number.old }
@@ -201,7 +205,11 @@ impl Handle {
     }
 
     /// Applies a command. Writes the relative position of two places: -1, 0 or 1.
-    pub(crate) fn take_order(&mut self, command: Result<Command, ArgumentFault>, order: &mut i8) -> u8
+    pub(crate) fn take_order(
+        &mut self,
+        command: Result<Command, ArgumentFault>,
+        order: &mut i8,
+    ) -> u8
         ensures answers { (c : Result PlainCommand ℕ) → ReadsArgument command_view command c →
             Answers self.old self.new c result }
         ensures told { order.new ≡ order_out (answer_of_call self.new result) order.old }

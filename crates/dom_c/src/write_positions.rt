@@ -221,7 +221,11 @@ impl Handle {
     }
 
     /// Applies a command. Writes a node's kind and its neighbours.
-    pub(crate) fn take_place(&mut self, command: Result<Command, ArgumentFault>, place: &mut NodePosition) -> u8
+    pub(crate) fn take_place(
+        &mut self,
+        command: Result<Command, ArgumentFault>,
+        place: &mut NodePosition,
+    ) -> u8
         ensures answers { (c : Result PlainCommand ℕ) → ReadsArgument command_view command c →
             Answers self.old self.new c result }
         ensures told { place.new ≡ position_out (answer_of_call self.new result) place.old }

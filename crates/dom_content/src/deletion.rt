@@ -19,8 +19,8 @@ ghost use Rattle.dom_content.specs.DrawnParts.{place_behind};
 ghost use Rattle.dom_content.specs.LeftTokens.{IsLeftOf};
 
 use crate::contained::contained_tops;
-use crate::same_data::is_in_one_data;
 use crate::range_parts::{head, parts_of};
+use crate::same_data::is_in_one_data;
 use dom_data::replace_data_checked;
 use dom_edit::{Content, World, data_in};
 use dom_point::{Point, point_after};

@@ -16,8 +16,8 @@ ghost use Rattle.dom_content.specs.Paths.{HasNumbers, Stays, DataStays, opened, 
 ghost use Rattle.dom_content.specs.DrawConditions.{MayDraw, IsPathTo};
 
 use crate::child_slices::{children_ahead, children_from, children_past, children_until};
-use crate::partially_contained::{Partial, Partials, close_all, copy_into, open_partial};
 use crate::content_pieces::{children_into, units_into};
+use crate::partially_contained::{Partial, Partials, close_all, copy_into, open_partial};
 use dom_edit::{Content, World, data_in};
 use dom_tree::{NodeId, Tree};
 use smallvec::SmallVec;

@@ -24,11 +24,11 @@ ghost use Rattle.dom_content.specs.DrawConditions.{MayDraw, IsPathTo};
 ghost use Rattle.dom_model.specs.DataAndCopies.Data.{data_of};
 ghost use Rattle.dom_content.specs.DrawnParts.{ArePartsOf, in_one_data, drawn_by, filled_by};
 
-use crate::same_data::is_in_one_data;
-use crate::deletion::{new_place, stand_at};
-use crate::range_parts::{RangeParts, parts_of};
 use crate::content_pieces::{children_into, new_fragment, units_into};
+use crate::deletion::{new_place, stand_at};
 use crate::end_paths::{head_into, tail_into};
+use crate::range_parts::{RangeParts, parts_of};
+use crate::same_data::is_in_one_data;
 use dom_edit::{Content, Refusal, World, document_in};
 use dom_kinds::{DomError, Kind};
 use dom_point::Point;
@@ -59,7 +59,12 @@ fn has_doctype(tree: &Tree<Content>, nodes: &[NodeId]) -> bool
 }
 
 // Returns the parts of a range, unless it contains a doctype.
-fn drawable_parts(world: &World, alloc: Global, start: Point, end: Point) -> Result<RangeParts, Refusal>
+fn drawable_parts(
+    world: &World,
+    alloc: Global,
+    start: Point,
+    end: Point,
+) -> Result<RangeParts, Refusal>
     requires whole { IsWhole world.now }
     requires range { IsRange world.now.tree.forest (record { start = start; end = end }) }
     ensures allowed { OnOk result (check_draw (unwatched world.now)

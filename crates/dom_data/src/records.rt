@@ -58,7 +58,11 @@ fn attribute_change<'a>(tree: &'a Tree<Content>, node: NodeId, name: &'a str) ->
 }
 
 // Queues a record of an attribute, which is about to change, for each interested observer, in the observers' own memory.
-pub(crate) fn queue_attribute_record(world: &mut World, node: NodeId, name: &str) -> Result<(), AllocError>
+pub(crate) fn queue_attribute_record(
+    world: &mut World,
+    node: NodeId,
+    name: &str,
+) -> Result<(), AllocError>
     requires whole { IsWhole world.old }
     requires held { HasNode world.old.tree.forest node }
     ensures told { OnOk result (Follows world.old world.new (attribute_record node name.now)) }

@@ -14,8 +14,8 @@ ghost use Rattle.dom_data.specs.GatheredData.{text_at, gathered};
 ghost use Rattle.dom_data.specs.TextContent.{makes_text};
 
 use crate::bodies::kind_in;
-use crate::new_text::make_text;
 use crate::character_data::set_data;
+use crate::new_text::make_text;
 use dom_edit::{Content, World, data_in, document_in};
 use dom_kinds::Kind;
 use dom_tree::{NodeId, Tree};

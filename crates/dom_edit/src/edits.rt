@@ -20,8 +20,8 @@ ghost use Rattle.dom_edit.specs.OlderNodes.{LeavesOlder, IsFragmentOrRoot};
 ghost use Rattle.dom_edit.specs.Markers.{StandByEdits};
 ghost use Rattle.dom_edit.specs.Refusals.{check_remove_child, check_only_child, check_adopt, IsRefused};
 
-use crate::pre_insertion::{check_insert, check_replace};
 use crate::insertion::{children, entering};
+use crate::pre_insertion::{check_insert, check_replace};
 use crate::queries::reference_child;
 use crate::refusal::Refusal;
 use crate::replacement::{check_only_child, entering_if_any, nodes_if_any};

@@ -186,7 +186,12 @@ fn has_child(tree: &Tree<Content>, parent: NodeId, kind: Kind) -> bool
 }
 
 // Returns how many children of a kind stay around an insertion point in a Document, if the cached counts tell.
-fn count_around(tree: &Tree<Content>, document: NodeId, place: InsertionPoint, kind: Kind) -> Option<u32>
+fn count_around(
+    tree: &Tree<Content>,
+    document: NodeId,
+    place: InsertionPoint,
+    kind: Kind,
+) -> Option<u32>
     requires held { HasNode tree.now.forest document }
     requires under { IsUnder tree.now.forest document place }
     ensures { IfSome result (λ n. n ≡ count_around kind tree.now.forest document place) }
@@ -195,13 +200,20 @@ fn count_around(tree: &Tree<Content>, document: NodeId, place: InsertionPoint, k
     let all = tree.children_of_kind(document, kind)?;
     match place {
         InsertionPoint::Before(_) => Some(all),
-        InsertionPoint::Instead(child) if tree.is_of_kind(child, kind) => Some(all.saturating_sub(1)),
+        InsertionPoint::Instead(child) if tree.is_of_kind(child, kind) => Some(all.saturating_sub(
+            1,
+        )),
         InsertionPoint::Instead(_) => Some(all),
     }
 }
 
 // Returns whether the one child of a kind is ahead of an insertion point before or in the place of a child, if it is known without a walk.
-fn is_ahead(tree: &Tree<Content>, document: NodeId, place: InsertionPoint, kind: Kind) -> Option<bool>
+fn is_ahead(
+    tree: &Tree<Content>,
+    document: NodeId,
+    place: InsertionPoint,
+    kind: Kind,
+) -> Option<bool>
     requires held { HasNode tree.now.forest document }
     requires under { IsUnder tree.now.forest document place }
     ensures { IfSome result (λ ahead. ahead ≡ has_kind kind tree.now.forest
@@ -312,7 +324,12 @@ fn refuses_doctype(tree: &Tree<Content>, document: NodeId, place: InsertionPoint
 }
 
 // Returns whether a Document refuses the children of a fragment: more than one element, a Text, or an element that it refuses.
-fn refuses_fragment(tree: &Tree<Content>, document: NodeId, fragment: NodeId, place: InsertionPoint) -> bool
+fn refuses_fragment(
+    tree: &Tree<Content>,
+    document: NodeId,
+    fragment: NodeId,
+    place: InsertionPoint,
+) -> bool
     requires held { HasNode tree.now.forest document }
     requires fragment_held { HasNode tree.now.forest fragment }
     requires under { IsUnder tree.now.forest document place }

@@ -17,8 +17,8 @@ mod tail;
 mod tree_records;
 mod world;
 
-pub use pre_insertion::{check_insert, check_replace};
 pub use content::Content;
+pub use pre_insertion::{check_insert, check_replace};
 pub use queries::{data_in, document_in, reference_child};
 pub use refusal::Refusal;
 pub use world::World;

@@ -78,7 +78,12 @@ fn is_inside(top: &At<'_, Content>, node: At<'_, Content>) -> bool
 
 // Checks an insertion point. All refusals but one have the same name, so the cheapest checks come first.
 #[inline(always)]
-fn check(tree: &Tree<Content>, parent: NodeId, node: NodeId, place: InsertionPoint) -> Result<(), DomError>
+fn check(
+    tree: &Tree<Content>,
+    parent: NodeId,
+    node: NodeId,
+    place: InsertionPoint,
+) -> Result<(), DomError>
     requires parent_held { HasNode tree.now.forest parent }
     requires node_held { HasNode tree.now.forest node }
     requires child_held { ForSome (child_of place) (λ c. HasNode tree.now.forest c) }

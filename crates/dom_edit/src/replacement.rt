@@ -10,9 +10,9 @@ ghost use Rattle.dom_edit.specs.Refusals.{check_only_child};
 ghost use Rattle.dom_edit.specs.Whole.{IsWhole, Follows};
 ghost use Rattle.dom_edit.specs.KeptNodes.{KeepsNodes};
 
-use crate::pre_insertion::check_insert;
 use crate::content::Content;
 use crate::insertion::{Incoming, entering};
+use crate::pre_insertion::check_insert;
 use crate::world::World;
 use dom_kinds::DomError;
 use dom_tree::{NodeId, Tree};

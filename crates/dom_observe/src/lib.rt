@@ -24,4 +24,4 @@ pub use dom_model::RecordType;
 pub use observer_id::{ObserverId, OfObserver};
 pub use observers::Observers;
 pub use options::{Options, RawOptions, resolve_options};
-pub use record::{Mutation, Record, Notification};
+pub use record::{Mutation, Notification, Record};

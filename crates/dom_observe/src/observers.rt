@@ -16,18 +16,18 @@ ghost use Rattle.dom_observe.specs.Removal.{removed_below};
 ghost use Rattle.dom_observe.specs.Sound.{AreSoundWatchers};
 ghost use Rattle.dom_observe.specs.Watchers.{queue_in, records_at, registrations_in, Watches, StepsObserving, AnswersQuestion};
 
-use crate::transient_registrations::{add_transients, find_standing, find_standing_deep};
 use crate::filter::Interests;
-use crate::node_references::{is_named, is_in_queues};
+use crate::node_references::{is_in_queues, is_named};
 use crate::notification::gather;
 use crate::observer_id::ObserverId;
 use crate::options::Options;
+use crate::queue_record::queue_for_interested;
 use crate::queues::{flush_each, take_from};
-use crate::record::{Mutation, Record, Notification};
+use crate::record::{Mutation, Notification, Record};
 use crate::registration::{EndedRegistrations, Ending, Lifetime, Registration};
 use crate::registrations::Registrations;
 use crate::roster::Roster;
-use crate::queue_record::queue_for_interested;
+use crate::transient_registrations::{add_transients, find_standing, find_standing_deep};
 use dom_tree::{NodeId, Tree};
 use indexmap::IndexSet;
 use std::alloc::{AllocError, Global};
@@ -302,7 +302,11 @@ impl Observers {
     ///
     /// Call it before the tree changes further, since it looks at the target's present ancestors. After an error some observers may have their record
     /// and others not; if no observer is registered at those ancestors, nothing has changed.
-    pub fn queue_record<X>(&mut self, tree: &Tree<X>, mutation: &Mutation<'_>) -> Result<(), AllocError>
+    pub fn queue_record<X>(
+        &mut self,
+        tree: &Tree<X>,
+        mutation: &Mutation<'_>,
+    ) -> Result<(), AllocError>
         requires { HasNode tree.now.forest mutation.now.target }
         ensures queued { OnOk result ((x : Observing) → Watches self.old x →
             Watches self.new (noted (record (mutation.now) {

@@ -14,9 +14,9 @@ ghost use Rattle.dom_observe.specs.Roster.{lasting_by, passing_by, queues_by, is
 use crate::node_keys::NodeKeys;
 use crate::observer_id::ObserverId;
 use crate::registration::{EndedRegistrations, Ending, Lifetime, Registration};
+use crate::registration_table::{cut, place_of};
 use crate::registrations::Registrations;
 use crate::roster::{Observer, Roster};
-use crate::registration_table::{cut, place_of};
 use dom_tree::NodeId;
 use indexmap::{IndexMap, IndexSet};
 use slab::Slab;

@@ -10,11 +10,11 @@ ghost use Rattle.dom_observe.specs.Watchers.{on};
 ghost use Rattle.dom_observe.specs.Registrations.{plain, at, is_live, is_on_node, own_at, unless_ending, with_new_options, origin_at, Added, NewKey, ByOrigin, IsFirstFrom, IsPast, Swept};
 ghost use Rattle.dom_observe.specs.Invariant.{AreRegistered};
 
-use crate::registration_removal::{end_key_on, end_keys_on, leave_out};
 use crate::filter::Interests;
 use crate::node_keys::{NodeKeys, put_key};
 use crate::observer_id::ObserverId;
 use crate::registration::{Ending, Registration};
+use crate::registration_removal::{end_key_on, end_keys_on, leave_out};
 use crate::registration_table::{next_turn, prune, set_options};
 use dom_tree::{NodeId, Tree};
 use indexmap::IndexMap;

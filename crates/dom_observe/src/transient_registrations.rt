@@ -13,10 +13,10 @@ ghost use Rattle.dom_observe.specs.OutOfMemory.{IsFront};
 
 use crate::observer_id::ObserverId;
 use crate::origins::Origins;
+use crate::queue_record::mark_pending;
 use crate::registration::Registration;
 use crate::registrations::Registrations;
 use crate::roster::Roster;
-use crate::queue_record::mark_pending;
 use dom_tree::{NodeId, Tree};
 use indexmap::IndexSet;
 use std::alloc::{AllocError, Global};

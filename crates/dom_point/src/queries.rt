@@ -7,8 +7,8 @@ ghost use Rattle.dom_model.specs.RangesAndContents.Ranges as ranges;
 ghost use Rattle.dom_model.specs.RangesAndContents.Ranges.{check_point, around};
 ghost use Rattle.dom_point.specs.Refusals.{result_of_check};
 
-use crate::point_order::{found_order, order};
 use crate::point::Point;
+use crate::point_order::{found_order, order};
 use dom_kinds::{DomError, Kind};
 use dom_tree::{Body, NodeId, Tree};
 use std::cmp::Ordering;

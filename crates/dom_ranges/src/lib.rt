@@ -11,6 +11,6 @@ mod set_ends;
 mod shift;
 mod static_ranges;
 
-pub use range_id::{OfRange, RangeId};
 pub use live_ranges::Ranges;
+pub use range_id::{OfRange, RangeId};
 pub use static_ranges::{OfStatic, StaticId, Statics};

@@ -5,8 +5,8 @@ ghost use Rattle.dom_model.specs.Forests.Forest.{HasNode, parent_of, index_of, i
 ghost use Rattle.dom_model.specs.BoundaryPoints.Points.{after_gap, after_splice, after_split, after_merge, after_removal, map_ranges};
 ghost use Rattle.dom_ranges.specs.Tables.{IsCovered, OffsetsFit, moved_in, on_node};
 
-use crate::range_ends;
 use crate::live_ranges::Ranges;
+use crate::range_ends;
 use crate::shift::Shift;
 use dom_point::Point;
 use dom_tree::{NodeId, Tree};

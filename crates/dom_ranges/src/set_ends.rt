@@ -13,8 +13,8 @@ ghost use Rattle.dom_model.specs.TokenText.CommandEdits.{start_edits, end_edits,
 ghost use Rattle.dom_ranges.specs.Markers.{RangesMatchEdits, IsNestedAs, IsMeasuredAs, HasPoint, IsAny};
 ghost use Rattle.dom_ranges.specs.Tables.{IsCovered, range_in, with_range_set, RangeIsSet, RangeBecomes, StandsIn, result_of_check};
 
-use crate::range_id::RangeId;
 use crate::live_ranges::Ranges;
+use crate::range_id::RangeId;
 use dom_kinds::{DomError, Kind};
 use dom_point::{Point, checked_point, found_before, points_around, same_root};
 use dom_tree::{Body, NodeId, Tree};

@@ -14,12 +14,12 @@ mod server;
 mod streams;
 mod to_write;
 
-pub use serve_loop::{serve, serve_within};
 pub use dom_wire::{Limits, ReadError, read_line, write_reply};
 pub use fault::{Fault, Summary};
 pub use from_read::FromRead;
 pub use last_error::LastError;
+pub use line_output::write_line;
 pub use one_read::OneRead;
+pub use serve_loop::{serve, serve_within};
 pub use streams::{Failed, Sink, Source};
 pub use to_write::ToWrite;
-pub use line_output::write_line;

@@ -9,10 +9,10 @@ ghost use Rattle.dom_serve.specs.Output.{is_write_fault};
 ghost use Rattle.dom_serve.specs.Server.{EndsNoLine, IsServerAfter, Fed, Finishes};
 
 use crate::fault::Fault;
+use crate::line_output::write_out_of_memory;
 use crate::replies::answer;
 use crate::server::Server;
 use crate::streams::Sink;
-use crate::line_output::write_out_of_memory;
 use dom_wire::{Limits, Session};
 use memchr::memchr;
 use std::alloc::{AllocError, Global};

@@ -11,8 +11,8 @@ ghost use Rattle.dom_serve.specs.Output.{is_write_fault};
 ghost use Rattle.dom_serve.specs.Server.{held_command, held_step, Takes, PrintsStep, WritesReply};
 
 use crate::fault::Fault;
-use crate::streams::{Failed, Sink};
 use crate::line_output::{write_line, write_out_of_memory};
+use crate::streams::{Failed, Sink};
 use dom_wire::{Brief, Command, OwnError, ReadError, Reply, Session, read_line, write_reply};
 use std::alloc::{AllocError, Global};
 

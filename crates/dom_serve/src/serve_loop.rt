@@ -13,9 +13,9 @@ ghost use Rattle.dom_serve.specs.Output.{is_write_fault};
 ghost use Rattle.dom_serve.specs.Server.{IsServerAfter, Concludes};
 
 use crate::fault::{Fault, Summary};
+use crate::line_output::write_out_of_memory;
 use crate::server::Server;
 use crate::streams::{Failed, Sink, Source};
-use crate::line_output::write_out_of_memory;
 use dom_wire::Limits;
 use std::alloc::{AllocError, Global};
 

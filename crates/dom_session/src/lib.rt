@@ -42,7 +42,7 @@ pub use command::{
 pub use dom_edit::Content;
 pub use dom_kinds::{DomError, Kind, Label};
 pub use dom_model::{Move, OwnError, RecordType, Verdict};
-pub use dom_observe::{ObserverId, RawOptions, Record, Notification};
+pub use dom_observe::{Notification, ObserverId, RawOptions, Record};
 pub use dom_point::Point;
 pub use dom_ranges::{RangeId, StaticId};
 pub use dom_traverse::{Filter, IteratorId, Rule, WalkerId};

@@ -11,8 +11,8 @@ ghost use Rattle.dom_session.specs.OutOfMemory.{KeepsWholeWorld};
 
 use crate::brief::Brief;
 use crate::command::Asking;
-use crate::tree_rows::print_tree;
 use crate::reply::{Answer, Description, Reply};
+use crate::tree_rows::print_tree;
 use dom_edit::{Content, World};
 use dom_model::OwnError;
 use dom_tree::{NodeId, Tree};

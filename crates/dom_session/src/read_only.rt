@@ -7,8 +7,8 @@ ghost use Rattle.dom_session.specs.Views.{reading_view};
 ghost use Rattle.dom_session.specs.SessionViews.{IsStep, RepliesTo};
 
 use crate::command::Reading;
-use crate::node_queries::{index, length, root};
 use crate::live_ranges::describe_range;
+use crate::node_queries::{index, length, root};
 use crate::reply::Reply;
 use crate::static_ranges::describe_static_range;
 use crate::traversal::{describe_iterator, describe_walker};

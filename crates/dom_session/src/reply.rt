@@ -6,7 +6,7 @@ ghost use Rattle.dom_session.specs.Refusals.{reply_to};
 use crate::brief::Brief;
 use dom_edit::{Content, Refusal};
 use dom_kinds::Label;
-use dom_observe::{Record, Notification};
+use dom_observe::{Notification, Record};
 use dom_point::Point;
 use dom_tree::NodeId;
 use dom_units::Units;

@@ -18,11 +18,10 @@ ghost use Rattle.dom_session.specs.BorrowedData.{lent_as, lent_whole, label_of_n
 ghost use Rattle.dom_session.specs.Subtree.{part_in, laid_in};
 ghost use Rattle.dom_attrs.specs.Entries.{attribute_at};
 
-use crate::dispatch::answered;
 use crate::attributes::has_attribute;
 use crate::brief::Brief;
 use crate::command::{Command, Editing, Making, Reading};
-use crate::tree_edits::edit_tree;
+use crate::dispatch::answered;
 use crate::going_on::goes_on;
 use crate::in_use::{self, Counts};
 use crate::neighbours::{self, Neighbours};
@@ -30,6 +29,7 @@ use crate::node_creation::{create_element, create_text, make_nodes};
 use crate::reply::Reply;
 use crate::subtree::{self, NodeRow, SubtreePart};
 use crate::traversal::{next_node, previous_node, walk};
+use crate::tree_edits::edit_tree;
 use crate::{borrowed_data, read_only};
 use dom_edit::World;
 use dom_kinds::Label;

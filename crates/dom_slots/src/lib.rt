@@ -8,5 +8,5 @@
 mod numbered_items;
 mod numbers;
 
-pub use numbers::Numbers;
 pub use numbered_items::NumberedItems;
+pub use numbers::Numbers;

@@ -11,10 +11,10 @@ ghost use Rattle.dom_traverse.specs.NewReferences.{IsExit, gone_by};
 ghost use Rattle.dom_traverse.specs.PreRemoval.{stepped_at};
 ghost use Rattle.dom_traverse.specs.Items.{StandsInside};
 
-use crate::new_reference::NewReference;
-use crate::preceding_and_following::previous_inside;
 use crate::judge::Judge;
+use crate::new_reference::NewReference;
 use crate::positioned::Positioned;
+use crate::preceding_and_following::previous_inside;
 use dom_tree::{NodeId, Tree};
 use std::marker::Model;
 
@@ -141,7 +141,12 @@ impl NodeIterator {
 
     // Runs the pre-removing steps: moves a reference inside the removed node on if the pointer is before it, or else back. Returns the exit found for
     // the root, or the last one.
-    pub fn removing<X>(&mut self, tree: &Tree<X>, node: NodeId, last: Option<NewReference>) -> Option<NewReference>
+    pub fn removing<X>(
+        &mut self,
+        tree: &Tree<X>,
+        node: NodeId,
+        last: Option<NewReference>,
+    ) -> Option<NewReference>
         requires held { HasNode tree.now.forest node }
         requires found { ForSome last (IsExit tree.now.forest node) }
         ensures moved { self.new ≡ pre_removed tree.now.forest node self.old }
@@ -177,7 +182,12 @@ impl NodeIterator {
     }
 
     // Does so for a reference known to be inside the removed node.
-    fn leave<X>(&mut self, tree: &Tree<X>, node: NodeId, last: Option<NewReference>) -> Option<NewReference>
+    fn leave<X>(
+        &mut self,
+        tree: &Tree<X>,
+        node: NodeId,
+        last: Option<NewReference>,
+    ) -> Option<NewReference>
         requires held { HasNode tree.now.forest node }
         requires inside { among self.old.reference (inclusive_descendants tree.now.forest node)
             ≡ true }

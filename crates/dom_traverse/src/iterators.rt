@@ -11,10 +11,10 @@ ghost use Rattle.dom_model.specs.MutationAlgorithms.Discarding.{nodes_unless_rel
 ghost use Rattle.dom_traverse.specs.Items.{iterator_in, IteratorBecomes, with_released, StandsInside};
 
 use crate::filter::Filter;
-use crate::pre_removal::removing;
 use crate::iterator::NodeIterator;
 use crate::judge::Judge;
 use crate::located::{Located, slot_of};
+use crate::pre_removal::removing;
 use dom_ids::Id;
 use dom_tree::{NodeId, Tree};
 use std::alloc::{AllocError, Global};

@@ -10,9 +10,9 @@ ghost use Rattle.dom_traverse.specs.NamedNodes.{named_by};
 ghost use Rattle.dom_traverse.specs.Items.{item_in, with_released};
 ghost use Rattle.dom_traverse.specs.PositionsByNode.{all_standing, StandOrWait};
 
-use crate::references::{name, names_inside, unname};
 use crate::positioned::{Positioned, stands_in};
 use crate::positions_by_node::PositionsByNode;
+use crate::references::{name, names_inside, unname};
 use dom_slots::NumberedItems;
 use dom_tree::{NodeId, Tree};
 use indexmap::IndexMap;

@@ -8,11 +8,11 @@ ghost use Rattle.dom_model.specs.MutationAlgorithms.PreRemoval.{pre_removed};
 ghost use Rattle.dom_traverse.specs.NewReferences.{IsExit};
 ghost use Rattle.dom_traverse.specs.PreRemoval.{StandAtReferences, GaveWay};
 
-use crate::new_reference::NewReference;
-use crate::preceding_and_following::has_few_inside;
 use crate::iterator::NodeIterator;
 use crate::located::flush_pending;
+use crate::new_reference::NewReference;
 use crate::positions_by_node::PositionsByNode;
+use crate::preceding_and_following::has_few_inside;
 use dom_slots::NumberedItems;
 use dom_tree::{NodeId, Tree};
 

@@ -4,9 +4,9 @@ ghost use Rattle.std.specs.Prelude.{◌≡◌};
 ghost use Rattle.dom_model.specs.Traversal.Walks.{walk_found, walker_moved};
 ghost use Rattle.dom_traverse.specs.Items.{StandsThere};
 
-use crate::sibling_walk::Side;
 use crate::judge::Judge;
 use crate::positioned::Positioned;
+use crate::sibling_walk::Side;
 use crate::walker_moves;
 use dom_model::Move;
 use dom_tree::{NodeId, Tree};

@@ -7,8 +7,8 @@ ghost use Rattle.dom_model.specs.Traversal.Walks.{found_by_steps};
 ghost use Rattle.dom_traverse.specs.SiblingWalks.{child_move, sibling_move};
 ghost use Rattle.dom_traverse.specs.Ends.{Descends, IsEnd};
 
-use crate::sibling_walk::{SiblingWalk, Limit, Side};
 use crate::judge::Judge;
+use crate::sibling_walk::{Limit, SiblingWalk, Side};
 use dom_tree::{At, NodeId, Tree};
 
 // `parentNode()`.

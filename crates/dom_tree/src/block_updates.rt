@@ -11,9 +11,9 @@ ghost use Rattle.dom_tree.specs.Blocks.{raised, counts_in, counts_but, block_bes
 
 use crate::block_counts::BLOCK;
 use crate::blocks::{Blocks, LONG};
+use crate::index_updates::{index_of, number_up_to, reach_of, set_index, set_sure, sure_of};
 use crate::item::{Item, UNKNOWN};
 use crate::neighbours::{self, named, number_of};
-use crate::index_updates::{index_of, number_up_to, reach_of, set_index, set_sure, sure_of};
 use dom_links::{Link, Place, Store};
 
 // The most steps to the start of a block.

@@ -10,10 +10,10 @@ ghost use Rattle.dom_tree.specs.PutRoot.{IsPutAt};
 
 use crate::block_updates::{block_put, blocked_put};
 use crate::blocks::Blocks;
+use crate::index_updates::number_put;
 use crate::item::Item;
 use crate::tallies::Tallies;
 use crate::tally_updates::tallied_put;
-use crate::index_updates::number_put;
 use dom_links::{Link, Place, Store};
 
 /// Inserts a root into a parent's children before one of them, or as the last, and updates the caches and counts. It takes no memory.

@@ -6,9 +6,9 @@ ghost use Rattle.dom_tree.specs.PutConditions.{takes_leaf, IsLeafFor, HasManyChi
 
 use crate::at::At;
 use crate::blocks::LONG;
+use crate::insertion::put_at;
 use crate::neighbours::place_at;
 use crate::node_id::NodeId;
-use crate::insertion::put_at;
 use crate::tree::Tree;
 use dom_kinds::Kind;
 use dom_links::Link;

@@ -11,14 +11,14 @@ ghost use Rattle.dom_tree.specs.PutConditions.{MayStand};
 
 use crate::block_updates::blocked_cut;
 use crate::blocks::Blocks;
+use crate::index_updates::number_cut;
+use crate::insertion::put_at;
 use crate::item::Item;
 use crate::neighbours::{link_to, named, place_of};
 use crate::node_id::NodeId;
-use crate::insertion::put_at;
 use crate::node_table::NodeTable;
 use crate::tallies::Tallies;
 use crate::tally_updates::tallied_cut;
-use crate::index_updates::number_cut;
 use dom_kinds::Label;
 use dom_links::{Place, Store};
 use dom_pages::Pages;

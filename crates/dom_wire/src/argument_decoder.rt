@@ -8,9 +8,9 @@ ghost use Rattle.dom_wire.specs.Reads.{Decodes};
 ghost use Rattle.dom_wire.specs.Shapes.{shape_view, arguments_view};
 
 use crate::arguments::{Arguments, Shape};
-use crate::read_error::ReadError;
 use crate::filters::{course_in, rules_in};
 use crate::options::options_in;
+use crate::read_error::ReadError;
 use crate::texts::{number_in, text_in};
 use dom_model::OwnError;
 use dom_session::Units;

@@ -16,7 +16,7 @@ mod texts;
 mod values;
 
 /// The session's types that lines are read for and printed from.
+pub use command_reader::read_line;
 pub use dom_session::{Brief, Command, Ended, Limits, OutOfMemory, OwnError, Reply, Session};
 pub use read_error::ReadError;
 pub use reply_printer::write_reply;
-pub use command_reader::read_line;

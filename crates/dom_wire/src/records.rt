@@ -6,7 +6,7 @@ ghost use Rattle.dom_model.specs.Commands.Printed.{or_null, number_json, numbers
 ghost use Rattle.dom_wire.specs.Prints.{tokens_of, tokens_of_all, Adds};
 
 use crate::values::{write_maybe_name, write_maybe_node, write_maybe_units, write_nodes};
-use dom_session::{Record, RecordType, Notification};
+use dom_session::{Notification, Record, RecordType};
 use json::Writer;
 use std::alloc::{AllocError, Global};
 
@@ -25,7 +25,11 @@ pub(crate) fn write_notified(
     writer.end_array()
 }
 
-fn write_notification(alloc: Global, told: &Notification, writer: &mut Writer) -> Result<(), AllocError>
+fn write_notification(
+    alloc: Global,
+    told: &Notification,
+    writer: &mut Writer,
+) -> Result<(), AllocError>
     ensures { Adds result writer.old writer.new (tokens_of (told_json told.now)) }
 {
     writer.begin_array()?;

@@ -6,6 +6,6 @@ pub mod laws;
 mod surround_check;
 mod surround_contents;
 
-pub use surround_check::can_surround;
 pub use insert_into_range::insert_node;
+pub use surround_check::can_surround;
 pub use surround_contents::surround;

@@ -14,8 +14,8 @@ ghost use Rattle.dom_edit.specs.Markers.{StandByEdits};
 ghost use Rattle.dom_edit.specs.Refusals.{IsRefused};
 ghost use Rattle.dom_wrap.specs.Outcomes.{world_after_outcome, put_around, HasNumberForSplit, Passes, MayTake};
 
-use crate::surround_check::can_surround;
 use crate::insert_into_range::insert_at_start;
+use crate::surround_check::can_surround;
 use dom_content::extract_checked;
 use dom_edit::{Refusal, World};
 use dom_ranges::RangeId;

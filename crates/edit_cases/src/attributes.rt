@@ -2,9 +2,9 @@
 
 ghost use Rattle.dom_edit.specs.Whole.{IsWhole};
 
-use crate::small_world::{SMALL_WORLD, of_kind};
 use crate::facts::Fact;
 use crate::scenes::{Call, Change, Row, When, played};
+use crate::small_world::{SMALL_WORLD, of_kind};
 use dom_data::{remove_attribute, set_attribute, toggle_attribute};
 use dom_edit::{Refusal, World};
 use dom_kinds::Kind;

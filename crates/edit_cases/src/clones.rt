@@ -2,9 +2,9 @@
 
 ghost use Rattle.dom_edit.specs.Whole.{IsWhole};
 
-use crate::small_world::{SMALL_WORLD, of_kind};
 use crate::facts::{Fact, NEW, held};
 use crate::scenes::{Call, New, Row, When, played};
+use crate::small_world::{SMALL_WORLD, of_kind};
 use dom_clone::{clone_node, import};
 use dom_edit::{Refusal, World};
 use dom_kinds::Kind;

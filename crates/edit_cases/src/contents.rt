@@ -5,9 +5,9 @@ ghost use Rattle.std.specs.Option.{IsSome};
 ghost use Rattle.dom_ranges.specs.Tables.{range_in};
 ghost use Rattle.dom_edit.specs.Whole.{IsWhole};
 
-use crate::small_world::SMALL_WORLD;
 use crate::facts::{Fact, NEW, OLDER, expect_units};
 use crate::scenes::{Ask, Call, New, Row, When, played};
+use crate::small_world::SMALL_WORLD;
 use dom_content::{clone_contents, delete_contents, extract, range_text};
 use dom_edit::{Refusal, World};
 use dom_point::{Point, checked_point, order};

@@ -4,8 +4,6 @@
 #[cfg(test)]
 mod attributes;
 #[cfg(test)]
-mod small_world;
-#[cfg(test)]
 mod clones;
 #[cfg(test)]
 mod contents;
@@ -14,14 +12,16 @@ mod copies;
 #[cfg(test)]
 mod documents;
 #[cfg(test)]
-mod tree_edits;
-#[cfg(test)]
 mod facts;
+#[cfg(test)]
+mod range_insertion;
 #[cfg(test)]
 mod scenes;
 #[cfg(test)]
+mod small_world;
+#[cfg(test)]
 mod texts;
 #[cfg(test)]
-mod worlds;
+mod tree_edits;
 #[cfg(test)]
-mod range_insertion;
+mod worlds;

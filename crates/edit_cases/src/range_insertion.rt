@@ -3,10 +3,10 @@
 
 ghost use Rattle.dom_edit.specs.Whole.{IsWhole};
 
-use crate::small_world::SMALL_WORLD;
 use crate::contents::selected;
 use crate::facts::{Fact, held};
 use crate::scenes::{Call, Row, When, played};
+use crate::small_world::SMALL_WORLD;
 use dom_edit::{Refusal, World};
 use dom_wrap::{insert_node, surround};
 use std::alloc::Global;

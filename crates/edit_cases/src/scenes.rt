@@ -4,17 +4,17 @@ ghost use Rattle.std.specs.Prelude.{◌≡◌, IfOk};
 ghost use Rattle.dom_edit.specs.Whole.{IsWhole};
 
 use crate::attributes::{set, toggle, unset};
-use crate::small_world::{make, make_document, make_observer, make_with, watch};
 use crate::clones::{copied, imported};
 use crate::contents::{contents_copied, delete, expect_range_text, extracted, select};
-use crate::tree_edits::{
-    adopt, append, clear, expect_discardable, insert, remove, remove_child, replace, replace_all,
-};
 use crate::facts::{Course, Fact, expect_all};
+use crate::range_insertion::{insert_at_start, put_around};
+use crate::small_world::{make, make_document, make_observer, make_with, watch};
 use crate::texts::{
     expect_substring, expect_text_content, fill, join, replace_units, set_units, split_at,
 };
-use crate::range_insertion::{insert_at_start, put_around};
+use crate::tree_edits::{
+    adopt, append, clear, expect_discardable, insert, remove, remove_child, replace, replace_all,
+};
 use dom_edit::{Content, Refusal, World};
 use dom_kinds::{DomError, Kind};
 use dom_tree::NodeId;

@@ -5,9 +5,9 @@ ghost use Rattle.dom_model.specs.Forests.Kinds.{is_character_data};
 ghost use Rattle.dom_model.specs.Forests.Nodes.{kind_passes};
 ghost use Rattle.dom_edit.specs.Whole.{IsWhole};
 
-use crate::small_world::{SMALL_WORLD, of_kind};
 use crate::facts::{Fact, NEW, expect_units, held};
 use crate::scenes::{Ask, Call, Change, New, Row, When, played};
+use crate::small_world::{SMALL_WORLD, of_kind};
 use dom_data::{
     normalize, replace_data, set_data, set_text_content, split, substring, text_content,
 };

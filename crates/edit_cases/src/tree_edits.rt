@@ -4,9 +4,9 @@ ghost use Rattle.std.specs.Option.{ForSome};
 ghost use Rattle.dom_model.specs.Forests.Forest.{HasNode};
 ghost use Rattle.dom_edit.specs.Whole.{IsWhole};
 
-use crate::small_world::{SMALL_WORLD, of_kind};
 use crate::facts::{Fact, held};
 use crate::scenes::{Call, New, Row, When, played};
+use crate::small_world::{SMALL_WORLD, of_kind};
 use dom_edit::{Refusal, World};
 use dom_kinds::{DomError, Kind, may_be_parent};
 use dom_tree::NodeId;

@@ -2,8 +2,8 @@
 #![tactic(auto)]
 
 #[cfg(test)]
+mod out_of_memory;
+#[cfg(test)]
 mod registrations;
 #[cfg(test)]
 mod scenes;
-#[cfg(test)]
-mod out_of_memory;

@@ -6,7 +6,9 @@ ghost use Rattle.dom_observe.specs.Watchers.{queue_in};
 
 use crate::registrations::nothing;
 use dom_kinds::{Kind, Label};
-use dom_observe::{Mutation, ObserverId, Observers, RawOptions, Record, RecordType, resolve_options};
+use dom_observe::{
+    Mutation, ObserverId, Observers, RawOptions, Record, RecordType, resolve_options,
+};
 use dom_tree::{NodeId, Tree};
 use dom_units::Units;
 use std::alloc::{AllocError, Global};

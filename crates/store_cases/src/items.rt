@@ -76,7 +76,12 @@ impl Act for Step {
         NumberedItems::new(alloc)
     }
 
-    fn act(&self, alloc: Global, items: &mut NumberedItems<u32>, turn: u32) -> Result<bool, AllocError> {
+    fn act(
+        &self,
+        alloc: Global,
+        items: &mut NumberedItems<u32>,
+        turn: u32,
+    ) -> Result<bool, AllocError> {
         match self {
             Step::Room(additional) => reserve(items, *additional),
             Step::Make => make(items, turn),

@@ -13,10 +13,10 @@ mod kinds;
 #[cfg(test)]
 mod links;
 #[cfg(test)]
+mod numbered_items;
+#[cfg(test)]
 mod pages;
 #[cfg(test)]
 mod player;
-#[cfg(test)]
-mod numbered_items;
 #[cfg(test)]
 mod units;

@@ -3,8 +3,8 @@
 use dom_attrs::Attrs;
 use dom_serve::write_reply;
 use dom_session::{
-    Answer, Brief, Content, Description, DomError, Kind, Label, NodeId, ObserverId, OwnError,
-    Point, Record, RecordType, Reply, Notification, TreeRow, Units,
+    Answer, Brief, Content, Description, DomError, Kind, Label, NodeId, Notification, ObserverId,
+    OwnError, Point, Record, RecordType, Reply, TreeRow, Units,
 };
 use std::alloc::{AllocError, Global};
 use std::cmp::Ordering;

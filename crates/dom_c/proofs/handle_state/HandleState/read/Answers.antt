@@ -8,13 +8,15 @@ use Rattle.dom_c.proofs.handle_state.HandleState.read.Goals as goal
 
 steps-read : (c : Command) (k : HandleState) (s : SessionView) (reply : Reply) → k.ended ≡ false → ((w : World) → StandsFor k.session w → IsAnswered reply w k.session s c) → s ≡ k.session → StepsState (Ok c) k (with_reply (with_session k s) reply) (status_of (reply_view reply))
 steps-read c k s reply on answers same = record {
-  ends = subst (λ (q : Bool). Ends q (step_for k (Ok c)) k (with_reply (with_session k s) reply) (status_of (reply_view reply))) (sym on)
-      (on, inl (record {
-        reply_is = λ w stands. (answers w stands).reply_is;
-        world_is = λ w stands. (answers w stands).world_is;
-        status_is = refl;
-        refused = λ _. same;
-      }));
+  ends = subst (λ (q : Bool). Ends q (step_for k (Ok c)) k (with_reply (with_session k s) reply) (status_of (reply_view reply))) (sym on) (
+    on,
+    inl (record {
+      reply_is = λ w stands. (answers w stands).reply_is;
+      world_is = λ w stands. (answers w stands).world_is;
+      status_is = refl;
+      refused = λ _. same;
+    }),
+  );
   goes_on = λ _ _. refl;
   is_open = λ is_open _. ap (λ (v : SessionView). v.ended) same ∙ is_open;
   bounds = ap (λ (v : SessionView). v.bounds) same;
