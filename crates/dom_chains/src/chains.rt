@@ -236,7 +236,7 @@ impl<T: Copy, H: Heads> Chains<T, H> {
     }
 
     /// States a law, and does nothing: its contract holds for all items and keys at any time.
-    pub fn sound(&self)
+    pub fn state_law(&self)
         ensures covered { (key : ℕ) → among key (keys_of self.now.items) ≡ true →
             covers self.now.covered key ≡ true }
         ensures few { length self.now.items ≤ 2 ^ 33 }

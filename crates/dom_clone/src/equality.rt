@@ -17,7 +17,7 @@ pub fn is_equal(tree: &Tree<Content>, node: NodeId, other: NodeId) -> bool
     requires other_held { HasNode tree.now.forest other }
     ensures { result ≡ is_equal tree.now.forest node other }
 {
-    tree.sound();
+    tree.state_law();
     let mut left = node;
     let mut right = other;
     while are_alike(tree, node, left, other, right) {

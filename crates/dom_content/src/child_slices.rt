@@ -22,7 +22,7 @@ pub(crate) fn children_between(
     ensures { IfOk result (λ list. list.items ≡ children_ahead until
         (from_optional from (children_of tree.now.forest parent))) }
 {
-    tree.sound();
+    tree.state_law();
     let mut list = Vec::new(alloc);
     for child in tree.children_from(parent, from) {
         if until == Some(child) {
@@ -43,7 +43,7 @@ pub(crate) fn children_from(
     requires { HasNode tree.now.forest parent }
     ensures { IfOk result (λ list. list.items ≡ drop offset (children_of tree.now.forest parent)) }
 {
-    tree.sound();
+    tree.state_law();
     let from = tree.child_at(parent, offset);
     children_between(tree, alloc, parent, from, None)
 }
@@ -59,7 +59,7 @@ pub(crate) fn children_past(
     requires child_held { HasNode tree.now.forest child }
     ensures { IfOk result (λ list. list.items ≡ past child (children_of tree.now.forest parent)) }
 {
-    tree.sound();
+    tree.state_law();
     if tree.parent(child) == Some(parent) {
         let from = tree.next(child);
         return children_between(tree, alloc, parent, from, None);
@@ -77,7 +77,7 @@ pub(crate) fn children_ahead(
     requires { HasNode tree.now.forest parent }
     ensures { IfOk result (λ list. list.items ≡ up_to child (children_of tree.now.forest parent)) }
 {
-    tree.sound();
+    tree.state_law();
     let from = tree.first(parent);
     children_between(tree, alloc, parent, from, Some(child))
 }
@@ -92,7 +92,7 @@ pub(crate) fn children_until(
     requires { HasNode tree.now.forest parent }
     ensures { IfOk result (λ list. list.items ≡ take offset (children_of tree.now.forest parent)) }
 {
-    tree.sound();
+    tree.state_law();
     let from = tree.first(parent);
     let until = tree.child_at(parent, offset);
     children_between(tree, alloc, parent, from, until)

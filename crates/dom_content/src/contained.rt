@@ -133,7 +133,7 @@ pub(crate) fn last_ahead(tree: &Tree<Content>, point: Point) -> NodeId
         after result (inclusive_descendants tree.now.forest root) ≡ Some next →
         is_before tree.now.forest point (record { node = next; offset = 0 }) ≡ true }
 {
-    tree.sound();
+    tree.state_law();
     let Point { node, offset } = point;
     if offset == 0 {
         return node;

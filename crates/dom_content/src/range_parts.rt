@@ -33,7 +33,7 @@ fn path_up(
     requires held { HasNode tree.now.forest node }
     ensures { IfOk result (λ path. path.items ≡ up_to ancestor (ancestors node tree.now.forest)) }
 {
-    tree.sound();
+    tree.state_law();
     let mut path = Vec::new(alloc);
     let mut here = Some(node);
     while let Some(id) = here {
@@ -80,7 +80,7 @@ fn child_behind(
     ensures { result ≡ slice_get (children_of tree.now.forest parent)
         (index_behind tree.now.forest point path.now) }
 {
-    tree.sound();
+    tree.state_law();
     match head(path) {
         Some(child) => tree.next(child),
         None => tree.child_at(point.node, point.offset),
@@ -94,7 +94,7 @@ fn child_at(tree: &Tree<Content>, parent: NodeId, point: Point, path: &[NodeId])
     ensures { result ≡ slice_get (children_of tree.now.forest parent)
         (index_at tree.now.forest point path.now) }
 {
-    tree.sound();
+    tree.state_law();
     match head(path) {
         Some(child) => Some(child),
         None => tree.child_at(point.node, point.offset),
@@ -120,7 +120,7 @@ fn contained_children(
     ensures { IfOk result (λ list. list.items ≡ contained_in_forest tree.now.forest
         (record { start = start; end = end })) }
 {
-    tree.sound();
+    tree.state_law();
     let from = child_behind(tree, ancestor, start, first);
     let until = child_at(tree, ancestor, end, last);
     children_between(tree, alloc, ancestor, from, until)
@@ -157,7 +157,7 @@ pub(crate) fn parts_of(
     requires range { IsRange tree.now.forest (record { start = start; end = end }) }
     ensures { IfOk result (λ parts. ArePartsOf tree.now.forest start end parts) }
 {
-    tree.sound();
+    tree.state_law();
     if start == end {
         return Ok(RangeParts {
             first: Vec::new(alloc),

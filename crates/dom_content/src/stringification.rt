@@ -74,7 +74,7 @@ fn append_contained(
     ensures { OnOk result (text.new ≡ text.old ++ text_within tree.now.forest
         (record { start = start; end = end }) node) }
 {
-    tree.sound();
+    tree.state_law();
     if node == end.node {
         return Ok(());
     }
@@ -92,7 +92,7 @@ fn append_between(
     ensures { OnOk result (text.new ≡ text.old ++ texts_within tree.now.forest
         (record { start = start; end = end })) }
 {
-    tree.sound();
+    tree.state_law();
     let root = tree.root(start.node);
     let stop = last_ahead(tree, end);
     let mut here = last_ahead(tree, start);

@@ -53,7 +53,7 @@ pub(crate) fn splice_data(
         (content_in (entry_in tree.old.forest node)).text) < 2 ^ 64) }
     ensures err { OnErr result (tree.new ≡ tree.old) }
 {
-    tree.sound();
+    tree.state_law();
     let content = tree.body_mut(node);
     let outcome = content.splice(alloc, offset, count, added);
     // a law: so many units fit the memory
@@ -77,7 +77,7 @@ pub(crate) fn move_tail(
         { forest = tail_in node offset new tree.old.forest }) }
     ensures err { OnErr result (tree.new ≡ tree.old) }
 {
-    tree.sound();
+    tree.state_law();
     let content = tree.body_mut(node);
     let tail = content.split_off(alloc, offset)?;
     let place = tree.body_mut(new);
@@ -110,7 +110,7 @@ pub(crate) fn set_in(
     }) }
     ensures err { OnErr result (tree.new ≡ tree.old) }
 {
-    tree.sound();
+    tree.state_law();
     let content = tree.body_mut(node);
     let _ = content.set_attribute(alloc, name, value)?;
     Ok(())
@@ -125,7 +125,7 @@ pub(crate) fn remove_in(tree: &mut Tree<Content>, node: NodeId, name: &str)
           (content_in (entry_in tree.old.forest node)).attributes)) tree.old.forest;
     } }
 {
-    tree.sound();
+    tree.state_law();
     let content = tree.body_mut(node);
     let _ = content.remove_attribute(name);
 }

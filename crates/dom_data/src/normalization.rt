@@ -45,7 +45,7 @@ fn texts_below(tree: &Tree<Content>, alloc: Global, top: NodeId) -> Result<Vec<N
     ensures { IfOk result (λ texts. texts.items ≡ texts_among tree.now.forest
         (drop 1 (inclusive_descendants tree.now.forest top))) }
 {
-    tree.sound();
+    tree.state_law();
     let mut texts = Vec::new(alloc);
     let mut here = top;
     while let Some(next) = tree.next_inside(top, here) {
@@ -60,7 +60,7 @@ fn next_text(tree: &Tree<Content>, node: NodeId) -> Option<NodeId>
     requires held { HasNode tree.now.forest node }
     ensures { result ≡ next_text tree.now.forest node }
 {
-    tree.sound();
+    tree.state_law();
     match tree.next(node) {
         Some(next) if tree.is_of_kind(next, Kind::Text) => Some(next),
         _ => None,
@@ -76,7 +76,7 @@ fn texts_behind(
     requires held { HasNode tree.now.forest node }
     ensures { IfOk result (λ texts. texts.items ≡ texts_behind tree.now.forest node) }
 {
-    tree.sound();
+    tree.state_law();
     let mut texts = Vec::new(alloc);
     let mut here = node;
     while let Some(next) = next_text(tree, here) {

@@ -67,7 +67,7 @@ fn split_ends(world: &mut World, node: NodeId, offset: usize, new: NodeId)
       };
     } }
 {
-    world.tree.sound();
+    world.tree.state_law();
     match world.tree.parent(node) {
         Some(parent) => {
             counted(&world.tree, parent);

@@ -40,7 +40,7 @@ fn descendant_text(tree: &Tree<Content>, alloc: Global, top: NodeId) -> Result<U
     ensures { IfOk result (λ text. text ≡ gathered tree.now.forest
         (drop 1 (inclusive_descendants tree.now.forest top))) }
 {
-    tree.sound();
+    tree.state_law();
     let mut text = Units::new(alloc);
     let mut here = top;
     while let Some(next) = tree.next_inside(top, here) {

@@ -27,7 +27,7 @@ fn cache_order(tree: &mut Tree<Content>, document: NodeId, child: NodeId, kind: 
     requires child { parent_of tree.old.forest child ≡ Some document }
     ensures { tree.new ≡ tree.old }
 {
-    tree.sound();
+    tree.state_law();
     if let Some(known) = tree.known_child(document, kind) {
         let _ = tree.found_comes_before(known, child);
     }

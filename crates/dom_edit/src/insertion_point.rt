@@ -86,7 +86,7 @@ fn found_between(
     ensures { IsFound tree.now.forest (children_ahead until
         (from_optional from (children_of tree.now.forest parent))) result }
 {
-    tree.sound();
+    tree.state_law();
     let mut found = NOTHING;
     for child in tree.children_from(parent, from) {
         if is_number(until, child) {
@@ -139,7 +139,7 @@ fn look_around(tree: &Tree<Content>, document: NodeId, place: InsertionPoint) ->
     requires under { IsUnder tree.now.forest document place }
     ensures { IsAround tree.now.forest document place result }
 {
-    tree.sound();
+    tree.state_law();
     let first = tree.first(document);
     let Some(child) = place.child() else {
         return Around {
@@ -165,7 +165,7 @@ fn count_children(tree: &Tree<Content>, parent: NodeId, kind: Kind) -> usize
     requires { HasNode tree.now.forest parent }
     ensures { result ≡ count_kind kind tree.now.forest (children_of tree.now.forest parent) }
 {
-    tree.sound();
+    tree.state_law();
     // there are no more than all of them
     let _most = tree.count(parent);
     let mut count: usize = 0;
@@ -196,7 +196,7 @@ fn count_around(
     requires under { IsUnder tree.now.forest document place }
     ensures { IfSome result (λ n. n ≡ count_around kind tree.now.forest document place) }
 {
-    tree.sound();
+    tree.state_law();
     let all = tree.children_of_kind(document, kind)?;
     match place {
         InsertionPoint::Before(_) => Some(all),
@@ -219,7 +219,7 @@ fn is_ahead(
     ensures { IfSome result (λ ahead. ahead ≡ has_kind kind tree.now.forest
         (children_ahead (child_of place) (children_of tree.now.forest document))) }
 {
-    tree.sound();
+    tree.state_law();
     let child = place.child()?;
     let count = tree.children_of_kind(document, kind)?;
     if count != 1 {
@@ -236,7 +236,7 @@ fn element_by_count(tree: &Tree<Content>, document: NodeId, place: InsertionPoin
     ensures { IfSome result (λ refused. (n : ℕ) → refused
         ≡ refuses place Element tree.now.forest document n) }
 {
-    tree.sound();
+    tree.state_law();
     let elements = count_around(tree, document, place, Kind::Element)?;
     if elements != 0 {
         return Some(true);
@@ -262,7 +262,7 @@ fn doctype_by_count(tree: &Tree<Content>, document: NodeId, place: InsertionPoin
     ensures { IfSome result (λ refused. (n : ℕ) → refused
         ≡ refuses place DocumentType tree.now.forest document n) }
 {
-    tree.sound();
+    tree.state_law();
     let doctypes = count_around(tree, document, place, Kind::DocumentType)?;
     if doctypes != 0 {
         return Some(true);
@@ -283,7 +283,7 @@ fn element_by_walk(tree: &Tree<Content>, document: NodeId, place: InsertionPoint
     requires under { IsUnder tree.now.forest document place }
     ensures { (n : ℕ) → result ≡ refuses place Element tree.now.forest document n }
 {
-    tree.sound();
+    tree.state_law();
     look_around(tree, document, place).refuses_element()
 }
 
@@ -306,7 +306,7 @@ fn doctype_by_walk(tree: &Tree<Content>, document: NodeId, place: InsertionPoint
     requires under { IsUnder tree.now.forest document place }
     ensures { (n : ℕ) → result ≡ refuses place DocumentType tree.now.forest document n }
 {
-    tree.sound();
+    tree.state_law();
     look_around(tree, document, place).refuses_doctype()
 }
 

@@ -50,7 +50,7 @@ fn kind_at(node: &At<'_, Content>) -> Kind
     ensures { (test : Kind → Bool) → kind_passes test node.now.tree.forest node.now.node
         ≡ test result }
 {
-    node.sound();
+    node.state_law();
     node.label().kind
 }
 
@@ -60,12 +60,12 @@ fn is_inside(top: &At<'_, Content>, node: At<'_, Content>) -> bool
     ensures { result ≡ among node.entry.node (inclusive_descendants top.now.tree.forest
         top.now.node) }
 {
-    top.sound();
+    top.state_law();
     let end = top.number();
     if top.first().is_none() {
         return node.number() == end;
     }
-    node.sound();
+    node.state_law();
     let mut here = node;
     while here.number() != end {
         let Some(above) = here.parent() else {
@@ -91,7 +91,7 @@ fn check(
         (conditions_at place tree.now.forest parent node) ≡ None)
         (λ e. first_refusal (conditions_at place tree.now.forest parent node) ≡ Some e) }
 {
-    tree.sound();
+    tree.state_law();
     let parent_at = tree.at(parent);
     let node_at = tree.at(node);
     let above = kind_at(&parent_at);

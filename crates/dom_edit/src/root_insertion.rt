@@ -19,11 +19,11 @@ fn put_in(tree: &mut Tree<Content>, parent: NodeId, child: Option<NodeId>, node:
     requires ready { IsOpen tree.old.forest parent child (node ∷ []) }
     ensures { tree.new ≡ record tree.old { forest = placed_in parent child node tree.old.forest } }
 {
-    tree.sound();
+    tree.state_law();
     let document = tree.document_of(parent);
     let own = tree.document_of(node);
     tree.put(parent, node, child);
-    tree.sound();
+    tree.state_law();
     if own != document {
         tree.set_document(node, document);
     }
@@ -39,7 +39,7 @@ fn put_all(tree: &mut Tree<Content>, parent: NodeId, child: Option<NodeId>, node
     } }
 {
     for node in nodes {
-        tree.sound();
+        tree.state_law();
         // the checker covers no variable of this type that is passed by value at each turn
         let before = child;
         put_in(tree, parent, before, *node);

@@ -197,9 +197,9 @@ impl<T> Links<T> {
     }
 
     /// States a law, and does nothing: its contract holds for any store.
-    pub fn sound(&self)
+    pub fn state_law(&self)
         ensures { IsSound self.now }
     {
-        self.store.sound();
+        self.store.state_law();
     }
 }

@@ -262,7 +262,7 @@ impl<T> Store<T> {
     }
 
     /// States a law, and does nothing: its contract holds for any store.
-    pub fn sound(&self)
+    pub fn state_law(&self)
         ensures { IsSound self.now.arena }
     {
         let _ = &self.table;

@@ -79,7 +79,7 @@ impl Observers {
         ensures { result ≡ record { nodes = []; queues = []; pending = [] } }
     {
         let registrations = Registrations::new(alloc);
-        registrations.sound();
+        registrations.state_law();
         Observers {
             registrations,
             roster: Roster::new(alloc),
@@ -105,7 +105,7 @@ impl Observers {
     }
 
     /// States a law: what holds of observers at all times, even after a refused call.
-    pub fn sound(&self)
+    pub fn state_law(&self)
         ensures { AreSoundWatchers self.now }
     {
         let _ = &self.registrations;
@@ -198,7 +198,7 @@ impl Observers {
                 self.registrations
                     .end_from(&mut kept.passing, observer, node);
                 self.registrations.set_options(key, options);
-                self.registrations.sound();
+                self.registrations.state_law();
                 Ok(())
             }
             None => {
@@ -214,7 +214,7 @@ impl Observers {
                 let added = self
                     .registrations
                     .add(&mut kept.lasting, place, registration, self.alloc);
-                self.registrations.sound();
+                self.registrations.state_law();
                 added
             }
         }
@@ -229,7 +229,7 @@ impl Observers {
     {
         let kept = self.roster.get_mut(observer);
         self.registrations.end_all(kept, observer);
-        self.registrations.sound();
+        self.registrations.state_law();
         let _ = kept.queue.take(self.alloc);
     }
 
@@ -242,7 +242,7 @@ impl Observers {
     {
         let kept = self.roster.get_mut(observer);
         self.registrations.end_all(kept, observer);
-        self.registrations.sound();
+        self.registrations.state_law();
         self.pending.shift_remove(&observer);
         self.fleeting.swap_remove(&observer);
         self.untold.swap_remove(&observer);
@@ -401,7 +401,7 @@ impl Observers {
         self.pending.clear();
         self.registrations
             .end_transients(&mut self.roster, &self.fleeting);
-        self.registrations.sound();
+        self.registrations.state_law();
         self.fleeting.clear();
         Ok(told)
     }
@@ -441,7 +441,7 @@ impl Observers {
             ended: EndedRegistrations::TransientOf(observer),
         };
         self.registrations.end_own(&mut kept.passing, &ending);
-        self.registrations.sound();
+        self.registrations.state_law();
         self.untold.swap_remove(&observer);
         kept.queue.take(self.alloc)
     }

@@ -155,9 +155,9 @@ impl Registrations {
             → at self.new k ≡ unless_ending ending.now (at self.old k) }
         ensures swept { Swept self.old self.new }
     {
-        self.sound();
+        self.state_law();
         for key in keys {
-            self.sound();
+            self.state_law();
             if let Some(node) = ending_node(self.get(*key), ending) {
                 self.end_on(node, ending);
             }
@@ -171,7 +171,7 @@ impl Registrations {
             → at self.new k ≡ unless_ending ending.now (at self.old k) }
         ensures swept { Swept self.old self.new }
     {
-        self.sound();
+        self.state_law();
         for key in keys {
             if let Some(node) = ending_node(self.get(*key), ending) {
                 self.end_one(node, *key);
@@ -246,7 +246,7 @@ impl Registrations {
         ensures left { (k : ℕ) → at self.new k ≡ unless_ended Ended.Transient (at self.old k) }
         ensures swept { Swept self.old self.new }
     {
-        self.sound();
+        self.state_law();
         let ending = Ending {
             observer: None,
             lifetime: Lifetime::Passing,

@@ -246,7 +246,7 @@ impl Registrations {
     }
 
     // A law: it does nothing, and its contract tells what holds of registrations at any time.
-    pub(crate) fn sound(&self)
+    pub(crate) fn state_law(&self)
         ensures { AreRegistered self.now }
     {
         let _ = &self.table;

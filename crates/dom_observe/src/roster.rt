@@ -96,7 +96,7 @@ impl Roster {
         ensures* writes_back { sem 𝓛 (lends_observer self.entry observer result) }
         ensures value { observer_at self.old observer ≡ Some result.now }
     {
-        self.kept.sound();
+        self.kept.state_law();
         let slot = self.kept.slot(observer.number()).unwrap();
         self.kept.in_slot_mut(slot)
     }

@@ -97,7 +97,7 @@ pub(crate) fn add_transients(
     ensures queues { queues_by roster.new ≡ queues_by roster.old }
     ensures sound { AreRegistered registrations.new }
 {
-    registrations.sound();
+    registrations.state_law();
     let mut origins = Origins::new(
         registrations,
         registrations.keys_on(node),
@@ -119,7 +119,7 @@ pub(crate) fn add_transients(
             let kept = roster.get_mut(observer);
             let place = registrations.place_past(kept.passing.as_slice(), origin);
             registrations.add(&mut kept.passing, place, made, alloc)?;
-            registrations.sound();
+            registrations.state_law();
         }
     }
     Ok(())
@@ -147,7 +147,7 @@ pub(crate) fn find_standing<X>(
     ensures { OnOk result (keys.new.items ≡ flat_map (λ n. on n registrations.now.lists)
         (ancestors node tree.now.forest)) }
 {
-    tree.sound();
+    tree.state_law();
     keys.clear();
     let mut here = tree.at(node);
     loop {
@@ -198,7 +198,7 @@ pub(crate) fn find_standing_deep<X>(
         (λ n. filter (deep_at (at registrations.now)) (on n registrations.now.lists))
         (ancestors node tree.now.forest)) }
 {
-    tree.sound();
+    tree.state_law();
     keys.clear();
     let mut here = tree.at(node);
     loop {

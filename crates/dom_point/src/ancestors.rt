@@ -13,6 +13,6 @@ pub fn common<X>(tree: &Tree<X>, a: NodeId, b: NodeId) -> NodeId
     requires one_root { root_of tree.now.forest a ≡ root_of tree.now.forest b }
     ensures { result ≡ common_ancestor tree.now.forest a b }
 {
-    tree.sound();
+    tree.state_law();
     tree.meeting(a, b).node
 }

@@ -34,7 +34,7 @@ pub fn found_order<X>(tree: &mut Tree<X>, a: Point, b: Point) -> Ordering
     ensures order { result ≡ order_of tree.old.forest a b }
     ensures unchanged { tree.new ≡ tree.old }
 {
-    tree.sound();
+    tree.state_law();
     let meeting = tree.meeting(a.node, b.node);
     match (meeting.first, meeting.second) {
         (None, Some(child)) if a.offset != 0 => cache_index(tree, child),
@@ -73,7 +73,7 @@ fn order_where_met<X>(tree: &Tree<X>, met: Meeting, a: Point, b: Point) -> Order
     requires apart { AreApart met.first met.second }
     ensures { result ≡ order_of tree.now.forest a b }
 {
-    tree.sound();
+    tree.state_law();
     match (met.first, met.second) {
         (None, None) => a.offset.cmp(&b.offset),
         (None, Some(_)) if a.offset == 0 => Ordering::Less,

@@ -112,7 +112,7 @@ fn around_child<X>(tree: &Tree<X>, parent: NodeId, child: NodeId, index: usize) 
     ensures ahead { result.0 ≡ record { node = parent; offset = index } }
     ensures behind { result.1 ≡ record { node = parent; offset = index + 1 } }
 {
-    tree.sound();
+    tree.state_law();
     // an index is below the count, so the offset after the child fits too
     let _ = tree.count(parent);
     let before = Point {

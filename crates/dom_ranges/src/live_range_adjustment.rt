@@ -31,8 +31,8 @@ impl Ranges {
               (after_splice node at count added) self.old.ranges;
         } }
     {
-        self.slots.sound();
-        self.chains.sound();
+        self.slots.state_law();
+        self.chains.state_law();
         let shift = Shift::Splice {
             inside: node,
             at,
@@ -52,8 +52,8 @@ impl Ranges {
               (after_split node at new parent index) self.old.ranges;
         } }
     {
-        self.slots.sound();
-        self.chains.sound();
+        self.slots.state_law();
+        self.chains.state_law();
         let shift = Shift::Split {
             text: node,
             at,
@@ -73,8 +73,8 @@ impl Ranges {
               (after_merge from into base parent index) self.old.ranges;
         } }
     {
-        self.slots.sound();
-        self.chains.sound();
+        self.slots.state_law();
+        self.chains.state_law();
         let shift = Shift::Merge {
             from,
             into,
@@ -122,7 +122,7 @@ impl Ranges {
               (moved_in (inclusive_descendants tree.now.forest top) to) self.old.ranges;
         } }
     {
-        tree.sound();
+        tree.state_law();
         let mut here = top;
         for _step in 0..steps {
             self.gather_at(here, to);

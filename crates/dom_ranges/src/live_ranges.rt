@@ -70,7 +70,7 @@ impl Ranges {
         requires { among node (live_nodes self.old) ≡ false }
         ensures { self.new ≡ record self.old { covered = slice_set self.old.covered node false } }
     {
-        self.slots.sound();
+        self.slots.state_law();
         self.chains.forget(node.number());
     }
 
@@ -84,7 +84,7 @@ impl Ranges {
               (inclusive_descendants tree.now.forest top) self.old.covered;
         } }
     {
-        tree.sound();
+        tree.state_law();
         let mut here = top;
         loop {
             self.forget_one(here);
@@ -116,7 +116,7 @@ impl Ranges {
     {
         // only what is asked of the two points names the tree
         let _ = tree;
-        self.slots.sound();
+        self.slots.state_law();
         self.slots.reserve(1)?;
         self.chains.reserve(2)?;
         range_ends::push_reserved(&mut self.chains, start);
@@ -135,7 +135,7 @@ impl Ranges {
     pub fn count(&self) -> usize
         ensures { result ≡ count_by is_some self.now.ranges }
     {
-        self.slots.sound();
+        self.slots.state_law();
         self.slots.count()
     }
 
@@ -143,7 +143,7 @@ impl Ranges {
     pub fn holds(&self, r: RangeId) -> bool
         ensures { result ≡ is_some (range_in self.now r) }
     {
-        self.slots.sound();
+        self.slots.state_law();
         self.slots.slot(r.number()).is_some()
     }
 
@@ -154,8 +154,8 @@ impl Ranges {
         ensures start_covered { IsCovered self.now result.0.node }
         ensures end_covered { IsCovered self.now result.1.node }
     {
-        self.slots.sound();
-        self.chains.sound();
+        self.slots.state_law();
+        self.chains.state_law();
         let slot = self.slots.slot(r.number()).unwrap();
         let first = 2 * slot;
         let start = range_ends::point(&self.chains, first);
@@ -168,8 +168,8 @@ impl Ranges {
         requires { IsSome (range_in self.old r) }
         ensures { self.new ≡ without_range r self.old }
     {
-        self.slots.sound();
-        self.chains.sound();
+        self.slots.state_law();
+        self.chains.state_law();
         let slot = self.slots.release(r.number());
         let first = 2 * slot;
         self.chains.swap_remove(first + 1);
@@ -183,8 +183,8 @@ impl Ranges {
         requires end_covered { IsCovered self.old end.node }
         ensures { self.new ≡ with_range_set r (record { start = start; end = end }) self.old }
     {
-        self.slots.sound();
-        self.chains.sound();
+        self.slots.state_law();
+        self.chains.state_law();
         let slot = self.slots.slot(r.number()).unwrap();
         let first = 2 * slot;
         range_ends::place(&mut self.chains, first, start);
@@ -195,7 +195,7 @@ impl Ranges {
     pub fn stands_in(&self, node: NodeId) -> bool
         ensures { result ≡ among node (live_nodes self.now) }
     {
-        self.slots.sound();
+        self.slots.state_law();
         self.chains.has(node.number())
     }
 
@@ -203,12 +203,12 @@ impl Ranges {
     ///
     /// The ends in a node are its bucket, each once, and a node that is not covered has none. So if [`Ranges::stands_in`] returns true,
     /// [`Ranges::is_covered`] does too. Each live range has two ends in a table of fewer than 2 ^ 33.
-    pub fn sound(&self)
+    pub fn state_law(&self)
         ensures covered { AreCovered self.now }
         ensures few { count_by is_some self.now.ranges ≤ 2 ^ 32 }
     {
-        self.slots.sound();
-        self.chains.sound();
+        self.slots.state_law();
+        self.chains.state_law();
     }
 
     // Returns whether no range is live.
@@ -245,7 +245,7 @@ impl Ranges {
         if self.is_idle() {
             return false;
         }
-        self.slots.sound();
+        self.slots.state_law();
         match tree.any_inside(top, steps, |node| self.stands_in(node)) {
             Some(answer) => answer,
             None => range_ends::refer(&self.chains, tree, top),

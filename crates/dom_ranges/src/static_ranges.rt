@@ -96,7 +96,7 @@ impl Statics {
             ++ Some (record { start = start; end = end }) ∷ []) }
         ensures unchanged { OnErr result (self.new ≡ self.old) }
     {
-        self.ranges.sound();
+        self.ranges.state_law();
         self.ranges.reserve(1)?;
         self.counts.reserve(2)?;
         self.counts.add(start.node);
@@ -174,7 +174,7 @@ impl Statics {
         ensures { result ≡ list_any (λ m. among m (inclusive_descendants tree.now.forest top))
             (flat_map (nodes_unless_released nodes_of_range) self.now) }
     {
-        self.ranges.sound();
+        self.ranges.state_law();
         let steps = tree.steps_inside(top, |index| self.node(index));
         match tree.any_inside(top, steps, |node| self.names(node)) {
             Some(answer) => answer,
@@ -196,7 +196,7 @@ impl Statics {
     fn names(&self, node: NodeId) -> bool
         ensures { result ≡ among node (flat_map (nodes_unless_released nodes_of_range) self.now) }
     {
-        self.ranges.sound();
+        self.ranges.state_law();
         self.counts.stands_in(node)
     }
 }

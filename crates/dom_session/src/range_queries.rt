@@ -150,7 +150,7 @@ fn meets(tree: &mut Tree<Content>, node: NodeId, start: Point, end: Point) -> bo
     ensures meets { result ≡ intersects tree.old.forest node (record { start = start; end = end }) }
     ensures unchanged { tree.new ≡ tree.old }
 {
-    tree.sound();
+    tree.state_law();
     if !same_root(tree, node, start.node) {
         return false;
     }

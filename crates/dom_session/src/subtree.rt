@@ -42,7 +42,7 @@ fn node_at<X>(here: &At<'_, X>) -> SubtreeNode
     ensures { IfSome (entry_in here.now.tree.forest here.now.node)
         (λ e. result ≡ node_of here.now.node e) }
 {
-    here.sound();
+    here.state_law();
     let parent = match here.parent() {
         Some(above) => Some(above.number()),
         None => None,
@@ -67,7 +67,7 @@ fn lay_over<X, R: NodeRow>(
     ensures copied { into.new
         ≡ laid_over (map R.row_of (subtree_from tree.now.forest root start)) into.old }
 {
-    tree.sound();
+    tree.state_law();
     let mut here = tree.at(start);
     let mut count = 0;
     while count < into.len() {

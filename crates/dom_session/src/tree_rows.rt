@@ -43,7 +43,7 @@ fn rows_of(tree: &Tree<Content>, alloc: Global, top: NodeId) -> Result<Vec<TreeR
     requires { HasNode tree.now.forest top }
     ensures { IfOk result (λ rows. rows.items ≡ tree_rows tree.now.forest top) }
 {
-    tree.sound();
+    tree.state_law();
     let mut rows: Vec<TreeRow> = Vec::new(alloc);
     let mut waiting: Vec<Waiting<usize>> = Vec::new(alloc);
     rows.push(row_of(tree, alloc, top, 0)?)?;

@@ -59,7 +59,7 @@ impl<T> NumberedItems<T> {
         ensures slots { result ≡ length self.now.items }
         ensures live { result ≡ count_by is_some (by_slot self.now.slots self.now.items) }
     {
-        self.sound();
+        self.state_law();
         self.items.len()
     }
 
@@ -68,7 +68,7 @@ impl<T> NumberedItems<T> {
         ensures slot { result ≡ slot_at self.now.slots number }
         ensures within { IfSome result (λ slot. slot < length self.now.items) }
     {
-        self.sound();
+        self.state_law();
         self.slots.slot(number)
     }
 
@@ -76,7 +76,7 @@ impl<T> NumberedItems<T> {
     pub fn holds(&self, number: u32) -> bool
         ensures { result ≡ is_some (item_at (by_slot self.now.slots self.now.items) number) }
     {
-        self.sound();
+        self.state_law();
         self.slot(number).is_some()
     }
 
@@ -126,7 +126,7 @@ impl<T> NumberedItems<T> {
             ≡ by_slot self.old.slots self.old.items ++ Some item ∷ [] }
         ensures room { self.old.room ≤ self.new.room + 1 }
     {
-        self.slots.sound();
+        self.slots.state_law();
         let number = self.slots.push_reserved();
         self.items.push_reserved(item);
         number
@@ -142,18 +142,18 @@ impl<T> NumberedItems<T> {
             ≡ slice_set (by_slot self.old.slots self.old.items) number None }
         ensures room { self.old.room ≤ self.new.room }
     {
-        self.slots.sound();
+        self.slots.state_law();
         let slot = self.slots.release(number);
         let item = self.items.swap_remove(slot);
         (slot, item)
     }
 
     /// States a law, and does nothing: its contract holds for all slots and items at any time.
-    pub fn sound(&self)
+    pub fn state_law(&self)
         ensures slotted { IsSlotted self.now.slots self.now.items }
         ensures few { length self.now.slots ≤ 2 ^ 32 }
     {
-        self.slots.sound();
+        self.slots.state_law();
         let _ = &self.items;
     }
 }

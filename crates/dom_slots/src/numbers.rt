@@ -133,7 +133,7 @@ impl Numbers {
     }
 
     /// States a law, and does nothing: its contract holds for all numbers and slots at any time.
-    pub fn sound(&self)
+    pub fn state_law(&self)
         ensures fit { Fit self.now.slots self.now.numbers }
         ensures live { count_by is_some self.now.slots ≡ length self.now.numbers }
         ensures few { length self.now.slots ≤ 2 ^ 32 }

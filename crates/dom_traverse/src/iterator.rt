@@ -56,7 +56,7 @@ fn next_accepted<X>(tree: &Tree<X>, filter: &Judge, root: NodeId, node: NodeId) 
     ensures { result ≡ find (accepts tree.now.forest filter.now)
         (past node (inclusive_descendants tree.now.forest root)) }
 {
-    tree.sound();
+    tree.state_law();
     let mut here = tree.at(node);
     while let Some(next) = here.next_inside(root) {
         if filter.accepts(&next) {
@@ -79,7 +79,7 @@ fn previous_accepted<X>(
     ensures { result ≡ find (accepts tree.now.forest filter.now)
         (reverse (up_to node (inclusive_descendants tree.now.forest root))) }
 {
-    tree.sound();
+    tree.state_law();
     let mut here = tree.at(node);
     while let Some(previous) = previous_inside(&here, root) {
         if filter.accepts(&previous) {
@@ -120,7 +120,7 @@ impl NodeIterator {
         requires { StandsInside tree.now.forest self.now }
         ensures { result ≡ next_found tree.now.forest self.now }
     {
-        tree.sound();
+        tree.state_law();
         if self.before && self.filter.accepts_number(tree, self.reference) {
             return Some(self.reference);
         }
@@ -132,7 +132,7 @@ impl NodeIterator {
         requires { StandsInside tree.now.forest self.now }
         ensures { result ≡ previous_found tree.now.forest self.now }
     {
-        tree.sound();
+        tree.state_law();
         if !self.before && self.filter.accepts_number(tree, self.reference) {
             return Some(self.reference);
         }
@@ -152,7 +152,7 @@ impl NodeIterator {
         ensures moved { self.new ≡ pre_removed tree.now.forest node self.old }
         ensures found { ForSome result (IsExit tree.now.forest node) }
     {
-        tree.sound();
+        tree.state_law();
         if tree.is_inside(node, self.reference) {
             self.leave(tree, node, last)
         } else {

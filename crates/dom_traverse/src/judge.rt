@@ -82,7 +82,7 @@ impl Judge {
     pub fn judge<X>(&self, node: &At<'_, X>) -> Verdict
         ensures { result ≡ verdict_on node.now.tree.forest self.now node.now.node }
     {
-        node.sound();
+        node.state_law();
         let label = node.label();
         if self.shows(label.kind) {
             self.ruled(label.node_name())

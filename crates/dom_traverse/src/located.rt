@@ -53,7 +53,7 @@ pub(crate) fn slot_of<T>(items: &NumberedItems<T>, number: u32) -> usize
     ensures written { (x : T) → by_slot items.now.slots (slice_set items.now.items result x)
         ≡ slice_set (by_slot items.now.slots items.now.items) number (Some x) }
 {
-    items.sound();
+    items.state_law();
     items.slot(number).unwrap()
 }
 
@@ -95,7 +95,7 @@ impl<T: Positioned> Located<T> {
     {
         let alloc = self.allocator();
         let root = item.root();
-        self.items.sound();
+        self.items.state_law();
         self.items.reserve(1)?;
         self.roots.reserve(1)?;
         self.whereabouts.add(alloc, root)?;
@@ -166,7 +166,7 @@ impl<T: Positioned> Located<T> {
         ensures { result ≡ list_any (λ m. among m (inclusive_descendants tree.now.forest top))
             (flat_map (nodes_unless_released (named_by T.root_of T.node_of)) self.now) }
     {
-        self.items.sound();
+        self.items.state_law();
         if self.whereabouts.waiting().is_some() {
             return refer(self.items.items(), tree, top);
         }

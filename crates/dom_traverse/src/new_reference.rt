@@ -26,7 +26,7 @@ fn loses<X>(tree: &Tree<X>, root: NodeId, node: NodeId) -> bool
     ensures { result ≡ (not (node == root) && among node
         (inclusive_descendants tree.now.forest root)) }
 {
-    tree.sound();
+    tree.state_law();
     node != root && tree.is_ancestor(root, node)
 }
 
@@ -55,7 +55,7 @@ impl NewReference {
                 preceding: None,
             };
         }
-        tree.sound();
+        tree.state_law();
         let following = past_inside(tree, root, node);
         let here = tree.at(node);
         let preceding = previous_inside(&here, root);

@@ -60,7 +60,7 @@ fn removing_inside<X>(
     ensures slots { iterators.new.slots ≡ iterators.old.slots }
     ensures stand { StandAtReferences iterators.new.items references.new }
 {
-    tree.sound();
+    tree.state_law();
     let mut here = node;
     let mut last = None;
     loop {
@@ -143,7 +143,7 @@ fn step_off<X>(
     ensures stand { StandAtReferences iterators.new.items references.new }
     ensures found { ForSome result (IsExit tree.now.forest node) }
 {
-    tree.sound();
+    tree.state_law();
     let iterator = iterators.in_slot_mut(slot);
     let stood = iterator.reference;
     let last = iterator.removing(tree, node, last);

@@ -16,7 +16,7 @@ pub(crate) fn previous_inside<'a, X>(node: &At<'a, X>, top: NodeId) -> Option<At
     ensures node { node_at result ≡ before node.now.node
         (inclusive_descendants node.now.tree.forest top) }
 {
-    node.sound();
+    node.state_law();
     if node.number() == top {
         return None;
     }
@@ -33,7 +33,7 @@ pub(crate) fn past_inside<X>(tree: &Tree<X>, top: NodeId, node: NodeId) -> Optio
     ensures { result ≡ head_of (following_outside node (inclusive_descendants tree.now.forest node)
         (inclusive_descendants tree.now.forest top)) }
 {
-    tree.sound();
+    tree.state_law();
     let mut here = node;
     while here != top {
         if let Some(next) = tree.next(here) {

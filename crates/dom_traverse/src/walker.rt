@@ -60,7 +60,7 @@ impl TreeWalker {
         requires { StandsThere tree.now.forest self.now }
         ensures { result ≡ walk_found direction tree.now.forest self.now }
     {
-        tree.sound();
+        tree.state_law();
         let filter = &self.filter;
         let (root, current) = (self.root, self.current);
         match direction {

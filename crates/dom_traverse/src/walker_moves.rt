@@ -21,7 +21,7 @@ pub(crate) fn parent_node<X>(
     requires { HasNode tree.now.forest current }
     ensures { result ≡ parent_by_steps tree.now.forest filter.now root current }
 {
-    tree.sound();
+    tree.state_law();
     let mut here = tree.at(current);
     while here.number() != root {
         here = here.parent()?;
@@ -43,7 +43,7 @@ pub(crate) fn child<X>(
     requires { HasNode tree.now.forest current }
     ensures { result ≡ found_by_steps (child_move side) tree.now.forest filter.now root current }
 {
-    tree.sound();
+    tree.state_law();
     let course = SiblingWalk {
         root,
         current,
@@ -65,7 +65,7 @@ pub(crate) fn sibling<X>(
     requires { HasNode tree.now.forest current }
     ensures { result ≡ found_by_steps (sibling_move side) tree.now.forest filter.now root current }
 {
-    tree.sound();
+    tree.state_law();
     if current == root {
         return None;
     }
@@ -89,7 +89,7 @@ pub(crate) fn next_node<X>(
     requires { HasNode tree.now.forest current }
     ensures { result ≡ next_by_steps tree.now.forest filter.now root current }
 {
-    tree.sound();
+    tree.state_law();
     let course = SiblingWalk {
         root,
         current,
@@ -110,7 +110,7 @@ fn end_of<'a, X>(filter: &Judge, node: At<'a, X>) -> At<'a, X>
     ensures descends { Descends node.entry.tree.forest filter.now node.entry.node result.node }
     ensures end { IsEnd node.entry.tree.forest filter.now result.node }
 {
-    node.sound();
+    node.state_law();
     let mut here = node;
     while !filter.rejects(&here) {
         match here.last() {
@@ -131,7 +131,7 @@ pub(crate) fn previous_node<X>(
     requires { HasNode tree.now.forest current }
     ensures { result ≡ previous_by_steps tree.now.forest filter.now root current }
 {
-    tree.sound();
+    tree.state_law();
     if current == root {
         return None;
     }

@@ -60,7 +60,7 @@ impl<'a, X> At<'a, X> {
     ghost use Rattle.dom_tree.specs.Spots.{node_at};
 
     /// States a law, and does nothing: its contract holds for the tree and the node at any time.
-    pub fn sound(&self)
+    pub fn state_law(&self)
         ensures forest { IsForest self.now.tree }
         ensures there { HasNode self.now.tree.forest self.now.node }
     {
@@ -97,7 +97,7 @@ impl<'a, X> At<'a, X> {
         ensures tree { ForSome result (λ a. a.tree ≡ self.now.tree) }
         ensures node { node_at result ≡ parent_of self.now.tree.forest self.now.node }
     {
-        self.links.sound();
+        self.links.state_law();
         let place = neighbours::parent(self.links, self.place)?;
         Some(At {
             links: self.links,
@@ -111,7 +111,7 @@ impl<'a, X> At<'a, X> {
         ensures tree { ForSome result (λ a. a.tree ≡ self.now.tree) }
         ensures node { node_at result ≡ head_of (children_of self.now.tree.forest self.now.node) }
     {
-        self.links.sound();
+        self.links.state_law();
         let place = neighbours::first(self.links, self.place)?;
         Some(At {
             links: self.links,
@@ -125,7 +125,7 @@ impl<'a, X> At<'a, X> {
         ensures tree { ForSome result (λ a. a.tree ≡ self.now.tree) }
         ensures node { node_at result ≡ last_of (children_of self.now.tree.forest self.now.node) }
     {
-        self.links.sound();
+        self.links.state_law();
         let place = neighbours::last(self.links, self.place)?;
         Some(At {
             links: self.links,
@@ -139,7 +139,7 @@ impl<'a, X> At<'a, X> {
         ensures tree { ForSome result (λ a. a.tree ≡ self.now.tree) }
         ensures node { node_at result ≡ next_of self.now.tree.forest self.now.node }
     {
-        self.links.sound();
+        self.links.state_law();
         let place = neighbours::next(self.links, self.place)?;
         Some(At {
             links: self.links,
@@ -153,7 +153,7 @@ impl<'a, X> At<'a, X> {
         ensures tree { ForSome result (λ a. a.tree ≡ self.now.tree) }
         ensures node { node_at result ≡ previous_of self.now.tree.forest self.now.node }
     {
-        self.links.sound();
+        self.links.state_law();
         let place = neighbours::prev(self.links, self.place)?;
         Some(At {
             links: self.links,
@@ -169,8 +169,8 @@ impl<'a, X> At<'a, X> {
         ensures node { node_at result ≡ after self.now.node
             (inclusive_descendants self.now.tree.forest top) }
     {
-        self.sound();
-        self.links.sound();
+        self.state_law();
+        self.links.state_law();
         let links = self.links;
         let table = self.table;
         if let Some(place) = neighbours::first(links, self.place) {
@@ -200,8 +200,8 @@ impl<'a, X> At<'a, X> {
         ensures node { Some result.node ≡ last_of (inclusive_descendants self.now.tree.forest
             self.now.node) }
     {
-        self.sound();
-        self.links.sound();
+        self.state_law();
+        self.links.state_law();
         let links = self.links;
         let mut place = self.place;
         while let Some(last) = neighbours::last(links, place) {

@@ -35,7 +35,7 @@ impl<X> Tree<X> {
         ensures { IfSome result (λ child. Some child
             ≡ slice_get (children_of self.now.forest id) index) }
     {
-        self.sound();
+        self.state_law();
         let near = self.near_in_block(id, index)?;
         let from = self.index_within(near, 0)?;
         if from <= index {
@@ -64,8 +64,8 @@ impl<X> Tree<X> {
         ensures { result ≡ slice_get (children_of self.now.forest id) (index + steps) }
     {
         let _ = index;
-        self.sound();
-        self.links.sound();
+        self.state_law();
+        self.links.state_law();
         let mut here = place_of(&self.links, &self.table, child);
         for _passed in 0..steps {
             here = neighbours::next(&self.links, here)?;
@@ -81,8 +81,8 @@ impl<X> Tree<X> {
         ensures { result ≡ slice_get (children_of self.now.forest id) (index - steps) }
     {
         let _ = index;
-        self.sound();
-        self.links.sound();
+        self.state_law();
+        self.links.state_law();
         let mut here = place_of(&self.links, &self.table, child);
         for _passed in 0..steps {
             here = neighbours::prev(&self.links, here)?;
@@ -95,8 +95,8 @@ impl<X> Tree<X> {
         requires { HasNode self.now.forest id }
         ensures { result ≡ slice_get (children_of self.now.forest id) steps }
     {
-        self.sound();
-        self.links.sound();
+        self.state_law();
+        self.links.state_law();
         let mut child = neighbours::first(&self.links, place_of(&self.links, &self.table, id))?;
         for _passed in 0..steps {
             child = neighbours::next(&self.links, child)?;
@@ -111,8 +111,8 @@ impl<X> Tree<X> {
         ensures { result ≡ slice_get (children_of self.now.forest id)
             (length (children_of self.now.forest id) - 1 - steps) }
     {
-        self.sound();
-        self.links.sound();
+        self.state_law();
+        self.links.state_law();
         let mut child = neighbours::last(&self.links, place_of(&self.links, &self.table, id))?;
         for _passed in 0..steps {
             child = neighbours::prev(&self.links, child)?;

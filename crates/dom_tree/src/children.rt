@@ -42,7 +42,7 @@ impl<'a, X> Iterator for Children<'a, X> {
     fn next(&mut self) -> Option<NodeId> {
         let place = self.next.get()?;
         let links = self.links;
-        links.sound();
+        links.state_law();
         self.next = links.next(place);
         Some(number_of(links, place))
     }
@@ -54,7 +54,7 @@ impl<X> Tree<X> {
         requires { HasNode self.now.forest parent }
         ensures { result ≡ children_of self.now.forest parent }
     {
-        self.links.sound();
+        self.links.state_law();
         let first = self.links.first(place_of(&self.links, &self.table, parent));
         Children {
             links: &self.links,
@@ -68,7 +68,7 @@ impl<X> Tree<X> {
         ensures { MatchOption child (result ≡ []) (λ c. result
             ≡ from_first c (children_of self.now.forest parent)) }
     {
-        self.links.sound();
+        self.links.state_law();
         let from = link_to(&self.links, &self.table, child);
         Children {
             links: &self.links,

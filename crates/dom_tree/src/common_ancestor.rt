@@ -42,7 +42,7 @@ impl<X> Tree<X> {
         ensures second { IsOnWay self.now.forest b result.node result.second }
         ensures apart { AreApart result.first result.second }
     {
-        self.sound();
+        self.state_law();
         if a == b {
             return Meeting {
                 node: a,
@@ -73,8 +73,8 @@ impl<X> Tree<X> {
         requires { HasNode self.now.forest id }
         ensures { result + 1 ≡ length (ancestors id self.now.forest) }
     {
-        self.sound();
-        self.links.sound();
+        self.state_law();
+        self.links.state_law();
         let mut here = place_of(&self.links, &self.table, id);
         for depth in 0..self.live {
             match neighbours::parent(&self.links, here) {
@@ -94,8 +94,8 @@ impl<X> Tree<X> {
             ≡ length (ancestors id self.now.forest) }
         ensures start { steps ≡ 0 → result.child ≡ None }
     {
-        self.sound();
-        self.links.sound();
+        self.state_law();
+        self.links.state_law();
         let mut here = place_of(&self.links, &self.table, id);
         let mut child = Link::none();
         for _passed in 0..steps {
@@ -121,8 +121,8 @@ impl<X> Tree<X> {
         ensures right { CameThrough self.now.forest b result.node (Some result.right) }
         ensures apart { ¬ (result.left ≡ result.right) }
     {
-        self.sound();
-        self.links.sound();
+        self.state_law();
+        self.links.state_law();
         let mut left = place_of(&self.links, &self.table, a);
         let mut right = place_of(&self.links, &self.table, b);
         loop {

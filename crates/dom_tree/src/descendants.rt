@@ -14,8 +14,8 @@ impl<X> Tree<X> {
     pub fn is_inside(&self, top: NodeId, node: NodeId) -> bool
         ensures { result ≡ among node (inclusive_descendants self.now.forest top) }
     {
-        self.sound();
-        self.links.sound();
+        self.state_law();
+        self.links.state_law();
         let Some(place) = place_at(&self.links, &self.table, top) else {
             return false;
         };
@@ -31,8 +31,8 @@ impl<X> Tree<X> {
         requires under { among top (ancestors id self.now.forest) ≡ true }
         ensures { result ≡ after id (inclusive_descendants self.now.forest top) }
     {
-        self.sound();
-        self.links.sound();
+        self.state_law();
+        self.links.state_law();
         let mut here = place_of(&self.links, &self.table, id);
         if let Some(child) = neighbours::first(&self.links, here) {
             return Some(number_of(&self.links, child));
@@ -52,8 +52,8 @@ impl<X> Tree<X> {
         requires { HasNode self.now.forest id }
         ensures { Some result ≡ last_of (inclusive_descendants self.now.forest id) }
     {
-        self.sound();
-        self.links.sound();
+        self.state_law();
+        self.links.state_law();
         let mut here = place_of(&self.links, &self.table, id);
         while let Some(last) = neighbours::last(&self.links, here) {
             here = last;
@@ -79,7 +79,7 @@ impl<X> Tree<X> {
         ensures answered { length (inclusive_descendants self.now.forest top) ≤ steps →
             IsSome result }
     {
-        self.sound();
+        self.state_law();
         let mut here = top;
         for _step in 0..steps {
             if test(here) {
@@ -111,7 +111,7 @@ impl<X> Tree<X> {
         requires held { HasNode self.now.forest top }
         requires callable { F.IsAlwaysCallable nodes }
     {
-        self.sound();
+        self.state_law();
         let mut here = top;
         let mut climbing = None;
         let mut begun = 0;

@@ -19,7 +19,7 @@ impl<X> Tree<X> {
         requires { HasNode self.now.forest top }
         ensures { result ≡ is_held_outside self.now.forest top }
     {
-        self.sound();
+        self.state_law();
         if self.parent(top).is_some() {
             return true;
         }
@@ -40,8 +40,8 @@ impl<X> Tree<X> {
         requires no_parent { parent_of self.now.forest top ≡ None }
         ensures { IfSome result (λ refers. refers ≡ is_held_outside self.now.forest top) }
     {
-        self.sound();
-        self.fits();
+        self.state_law();
+        self.state_size_law();
         let mut owned = 0;
         let mut inside = 0;
         let mut here = top;
@@ -59,7 +59,7 @@ impl<X> Tree<X> {
     fn refers_from(&self, top: NodeId, id: NodeId) -> bool
         ensures { result ≡ refers_from self.now.forest top id }
     {
-        self.sound();
+        self.state_law();
         if !self.holds(id) {
             return false;
         }
@@ -81,7 +81,7 @@ impl<X: Drop> Tree<X> {
         requires unnamed { is_held_outside self.old.forest top ≡ false }
         ensures { self.new ≡ record self.old { forest = without top self.old.forest } }
     {
-        self.sound();
+        self.state_law();
         let mut here = top;
         loop {
             let leaf = self.last_inside(here);
@@ -91,7 +91,7 @@ impl<X: Drop> Tree<X> {
             };
             self.cut(leaf);
             self.take_root(leaf);
-            self.sound();
+            self.state_law();
             here = parent;
         }
     }
@@ -103,7 +103,7 @@ impl<X: Drop> Tree<X> {
         requires no_child { children_of self.old.forest id ≡ [] }
         ensures { self.new ≡ record self.old { forest = without id self.old.forest } }
     {
-        self.sound();
+        self.state_law();
         self.move_to(id, id);
         self.take_alone(id);
     }
@@ -117,12 +117,12 @@ impl<X: Drop> Tree<X> {
         ensures { self.new ≡ record self.old { forest = without id self.old.forest } }
     {
         let place = place_of(&self.links, &self.table, id);
-        self.links.sound();
+        self.links.state_law();
         let slot = self.links.slot(place);
         self.blocks.remove(slot);
         tallied_take(&self.links, &mut self.tallies, place);
         let item = self.links.take(slot);
-        self.links.sound();
+        self.links.state_law();
         self.table.clear(id.number() as usize);
         self.live -= 1;
         self.strays |= item.owned != 1;

@@ -17,7 +17,7 @@ impl<X> Tree<X> {
         ensures { IfSome result (λ i. i ≡ index_of self.now.forest id) }
     {
         let place = place_of(&self.links, &self.table, id);
-        self.links.sound();
+        self.links.state_law();
         let above = neighbours::parent(&self.links, place)?;
         let index = self.links.value(place).index;
         if index < self.links.value(above).sure {
@@ -33,7 +33,7 @@ impl<X> Tree<X> {
         ensures { self.new ≡ self.old }
     {
         let place = place_of(&self.links, &self.table, id);
-        self.links.sound();
+        self.links.state_law();
         if let Some(above) = neighbours::parent(&self.links, place) {
             number_around(&mut self.links, &mut self.blocks, above, place, index);
         }
@@ -77,7 +77,7 @@ impl<X> Tree<X> {
         requires { HasNode self.old.forest parent }
         ensures { self.new ≡ self.old }
     {
-        self.sound();
+        self.state_law();
         if let Some(last) = self.last(parent) {
             let index = self.index(last);
             self.cache_index(last, index);
@@ -110,7 +110,7 @@ impl<X> Tree<X> {
         ensures child { result ≡ slice_get (children_of self.old.forest id) index }
         ensures unchanged { self.new ≡ self.old }
     {
-        self.sound();
+        self.state_law();
         let child = self.child_at(id, index)?;
         if NEAR < index && NEAR < self.count(id) - index {
             self.cache_index(child, index);

@@ -216,7 +216,7 @@ pub(crate) fn number_up_to<X>(links: &mut Store<Item<X>>, parent: Place, child: 
     write_indices(links, parent, Link::to(first), from, end, true);
     let next = links.next(child);
     let until = reach.min(count).max(end);
-    links.sound();
+    links.state_law();
     write_indices(links, parent, next, end, until, false);
     set_sure(links, parent, end, end);
 }

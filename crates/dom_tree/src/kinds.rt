@@ -27,7 +27,7 @@ impl<X> Tree<X> {
             (children_of self.now.forest parent)) }
     {
         let place = place_of(&self.links, &self.table, parent);
-        self.links.sound();
+        self.links.state_law();
         let tally = self.tallies.get(self.links.slot(place))?;
         match kind {
             Kind::Element => Some(tally.elements),

@@ -30,8 +30,8 @@ fn is_leaf_for<X>(parent: &At<'_, X>, leaf: &At<'_, X>) -> bool
     ensures is { result ≡ true → IsLeafFor parent.now.tree.forest parent.now.node leaf.now.node }
     ensures not { result ≡ false → ¬ IsLeafFor parent.now.tree.forest parent.now.node leaf.now.node }
 {
-    parent.sound();
-    leaf.sound();
+    parent.state_law();
+    leaf.state_law();
     takes_leaf(parent.label().kind, leaf.label().kind)
         && parent.number() != leaf.number()
         && parent.document() == leaf.document()
@@ -78,8 +78,8 @@ impl<X> Tree<X> {
         if !is_leaf_for(&parent_at, &leaf_at) {
             return false;
         }
-        self.sound();
-        self.links.sound();
+        self.state_law();
+        self.links.state_law();
         put_at(
             &mut self.links,
             &mut self.blocks,

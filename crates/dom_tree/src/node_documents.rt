@@ -83,7 +83,7 @@ impl<X> Tree<X> {
     }
 
     /// States a law, and does nothing: its contract bounds the number of nodes.
-    pub(crate) fn fits(&self)
+    pub(crate) fn state_size_law(&self)
         ensures { self.now.made < 2 ^ 32 }
     {
         let _ = &self.links;

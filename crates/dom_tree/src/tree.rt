@@ -91,7 +91,7 @@ impl<X: Drop> Tree<X> {
         }) }
         ensures unchanged { OnErr result (self.new ≡ self.old) }
     {
-        self.sound();
+        self.state_law();
         let id = self.make_alone(label, body)?;
         self.move_to(id, document.unwrap_or(id));
         Ok(id)
@@ -127,7 +127,7 @@ impl<X: Drop> Tree<X> {
             reach: 0,
             owned: 1,
         };
-        self.links.sound();
+        self.links.state_law();
         let Ok(slot) = self.links.add(item) else {
             return Err(AllocError);
         };
@@ -178,7 +178,7 @@ impl<X> Tree<X> {
     }
 
     /// States a law, and does nothing: its contract holds for each tree at any time.
-    pub fn sound(&self)
+    pub fn state_law(&self)
         ensures { IsForest self.now }
     {
         let _ = &self.links;
@@ -227,7 +227,7 @@ impl<X> Tree<X> {
         ensures { result ≡ parent_of self.now.forest id }
     {
         let place = place_of(&self.links, &self.table, id);
-        self.links.sound();
+        self.links.state_law();
         named(&self.links, self.links.parent(place))
     }
 
@@ -237,7 +237,7 @@ impl<X> Tree<X> {
         ensures { result ≡ head_of (children_of self.now.forest id) }
     {
         let place = place_of(&self.links, &self.table, id);
-        self.links.sound();
+        self.links.state_law();
         named(&self.links, self.links.first(place))
     }
 
@@ -247,7 +247,7 @@ impl<X> Tree<X> {
         ensures { result ≡ last_of (children_of self.now.forest id) }
     {
         let place = place_of(&self.links, &self.table, id);
-        self.links.sound();
+        self.links.state_law();
         named(&self.links, self.links.last(place))
     }
 
@@ -257,7 +257,7 @@ impl<X> Tree<X> {
         ensures { result ≡ next_of self.now.forest id }
     {
         let place = place_of(&self.links, &self.table, id);
-        self.links.sound();
+        self.links.state_law();
         named(&self.links, self.links.next(place))
     }
 
@@ -267,7 +267,7 @@ impl<X> Tree<X> {
         ensures { result ≡ previous_of self.now.forest id }
     {
         let place = place_of(&self.links, &self.table, id);
-        self.links.sound();
+        self.links.state_law();
         named(&self.links, self.links.prev(place))
     }
 
@@ -294,7 +294,7 @@ impl<X> Tree<X> {
         let above = place_of(&self.links, &self.table, parent);
         let below = place_of(&self.links, &self.table, child);
         let next = link_to(&self.links, &self.table, before);
-        self.links.sound();
+        self.links.state_law();
         put_at(
             &mut self.links,
             &mut self.blocks,
@@ -311,7 +311,7 @@ impl<X> Tree<X> {
         ensures { self.new ≡ record self.old { forest = cut child self.old.forest } }
     {
         let place = place_of(&self.links, &self.table, child);
-        self.links.sound();
+        self.links.state_law();
         blocked_cut(&self.links, &mut self.blocks, place);
         tallied_cut(&self.links, &mut self.tallies, place);
         number_cut(&mut self.links, place);

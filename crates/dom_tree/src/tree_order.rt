@@ -19,8 +19,8 @@ impl<X> Tree<X> {
         requires { HasNode self.now.forest id }
         ensures { Some result ≡ root_of self.now.forest id }
     {
-        self.sound();
-        self.links.sound();
+        self.state_law();
+        self.links.state_law();
         let mut top = place_of(&self.links, &self.table, id);
         while let Some(above) = neighbours::parent(&self.links, top) {
             top = above;
@@ -33,8 +33,8 @@ impl<X> Tree<X> {
         requires { HasNode self.now.forest id }
         ensures { result ≡ among above (ancestors id self.now.forest) }
     {
-        self.sound();
-        self.links.sound();
+        self.state_law();
+        self.links.state_law();
         let Some(end) = place_at(&self.links, &self.table, above) else {
             return false;
         };
@@ -55,8 +55,8 @@ impl<X> Tree<X> {
         ensures { IfSome (root_of self.now.forest id) (λ root. result
             ≡ after id (inclusive_descendants self.now.forest root)) }
     {
-        self.sound();
-        self.links.sound();
+        self.state_law();
+        self.links.state_law();
         let mut here = place_of(&self.links, &self.table, id);
         if let Some(child) = neighbours::first(&self.links, here) {
             return Some(number_of(&self.links, child));
@@ -80,7 +80,7 @@ impl<X> Tree<X> {
         ensures { result ≡ nat_lt (place_in a (numbers self.now.forest))
             (place_in b (numbers self.now.forest)) }
     {
-        self.sound();
+        self.state_law();
         let met = self.meeting(a, b);
         match (met.first, met.second) {
             (Some(first), Some(second)) => self.comes_before(first, second),
@@ -128,7 +128,7 @@ impl<X> Tree<X> {
     {
         let a = place_of(&self.links, &self.table, a);
         let b = place_of(&self.links, &self.table, b);
-        self.links.sound();
+        self.links.state_law();
         let above = neighbours::parent(&self.links, a)?;
         before_by_block(&self.links, &self.blocks, above, a, b)
     }
@@ -168,8 +168,8 @@ impl<X> Tree<X> {
             ≡ nat_lt (index_of self.now.forest a) (index_of self.now.forest b)) }
         ensures found { length (siblings_in (entry_in self.now.forest) a) ≤ steps → IsSome result }
     {
-        self.sound();
-        self.links.sound();
+        self.state_law();
+        self.links.state_law();
         let end = self.links.slot(place_of(&self.links, &self.table, b));
         let mut forward = place_of(&self.links, &self.table, a);
         let mut backward = forward;
@@ -198,7 +198,7 @@ impl<X> Tree<X> {
         ensures { IfSome result (λ i. i ≡ index_of self.now.forest id) }
     {
         let place = place_of(&self.links, &self.table, id);
-        self.links.sound();
+        self.links.state_law();
         let above = neighbours::parent(&self.links, place)?;
         index_in_block(&self.links, &self.blocks, above, place)
     }
@@ -208,7 +208,7 @@ impl<X> Tree<X> {
         requires { HasNode self.now.forest id }
         ensures { result ≡ length (siblings_in (entry_in self.now.forest) id) }
     {
-        self.sound();
+        self.state_law();
         match self.parent(id) {
             Some(parent) => self.count(parent),
             None => 0,
@@ -246,8 +246,8 @@ impl<X> Tree<X> {
         ensures counted { IfSome result (λ i. i ≡ index_of self.now.forest id) }
         ensures found { index_of self.now.forest id ≤ steps → IsSome result }
     {
-        self.sound();
-        self.links.sound();
+        self.state_law();
+        self.links.state_law();
         let mut backward = place_of(&self.links, &self.table, id);
         let mut forward = backward;
         let Some(parent) = neighbours::parent(&self.links, backward) else {
@@ -277,11 +277,11 @@ impl<X> Tree<X> {
         requires { HasNode self.old.forest top }
         ensures { self.new ≡ record self.old { forest = adopted top document self.old.forest } }
     {
-        self.sound();
+        self.state_law();
         let mut here = top;
         loop {
             self.move_to(here, document);
-            self.sound();
+            self.state_law();
             match self.next_inside(top, here) {
                 Some(next) => here = next,
                 None => return,

@@ -65,7 +65,7 @@ fn leaves_element(world: &World, start: Point, end: Point, parent: NodeId) -> bo
         (record { start = start; end = end }) m)
         (children_of world.now.tree.forest parent) }
 {
-    world.tree.sound();
+    world.tree.state_law();
     for child in world.tree.children(parent) {
         if is_left_element(world, start, end, child) {
             return true;
@@ -81,7 +81,7 @@ fn has_doctype_from(tree: &Tree<Content>, parent: NodeId, first: Option<NodeId>)
     ensures { result ≡ has_kind DocumentType tree.now.forest
         (from_optional first (children_of tree.now.forest parent)) }
 {
-    tree.sound();
+    tree.state_law();
     for child in tree.children_from(parent, first) {
         if tree.is_of_kind(child, Kind::DocumentType) {
             return true;

@@ -67,7 +67,7 @@ fn put(links: &mut Links<u32>, parent: Slot, child: Slot, before: Option<Slot>) 
     if links.parent(child).is_some() || links.count(child) != 0 {
         return false;
     }
-    links.sound();
+    links.state_law();
     match before {
         Some(next) => {
             if !links.holds(next) || links.parent(next) != Some(parent) {

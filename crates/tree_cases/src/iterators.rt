@@ -71,7 +71,7 @@ fn is_inside(iterators: &NodeIterators, tree: &Tree<u32>, id: IteratorId) -> boo
     if !tree.holds(state.0) || !tree.holds(state.1) {
         return false;
     }
-    tree.sound();
+    tree.state_law();
     tree.is_ancestor(state.0, state.1)
 }
 

@@ -24,7 +24,7 @@ pub fn make_under(
         ≡ children_of tree.old.forest parent ++ id ∷ []) }
     ensures err { OnErr result (tree.new ≡ tree.old) }
 {
-    tree.sound();
+    tree.state_law();
     let document = tree.document_of(parent);
     let id = tree.make(label, body, Some(document))?;
     tree.put(parent, id, None);
@@ -38,7 +38,7 @@ pub fn detach(tree: &mut Tree<u32>, node: NodeId) -> Option<NodeId>
     ensures root { parent_of tree.new.forest node ≡ None }
     ensures made { tree.new.made ≡ tree.old.made }
 {
-    tree.sound();
+    tree.state_law();
     let parent = tree.parent(node)?;
     tree.cut(node);
     Some(parent)

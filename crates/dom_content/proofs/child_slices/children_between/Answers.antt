@@ -7,7 +7,7 @@ use Rattle.dom_content.proofs.{ChildrenBetween.given-is, child_slices.children_b
 use Rattle.dom_content.proofs.child_slices.children_between.Goals as goal
 
 pub children_from-child-items-requires : goal.children_from-child-items-requires
-children_from-child-items-requires c = parent-among c.args.tree.now c.sound.ensures c.args.parent c.args.from c.requires.child
+children_from-child-items-requires c = parent-among c.args.tree.now c.state_law.ensures c.args.parent c.args.from c.requires.child
 
 pub loop-child-init : goal.loop-child-init
 loop-child-init c =

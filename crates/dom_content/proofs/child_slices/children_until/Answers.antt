@@ -10,7 +10,7 @@ use Rattle.dom_content.proofs.child_slices.children_until.Goals as goal
 pub children_between-requires-clause-child : goal.children_between-requires-clause-child
 children_between-requires-clause-child c =
     let f = c.args.tree.now.forest in
-    rw c.first-from.ensures (IsAmong-head (children_of f c.args.parent) (λ m. child-once f c.sound.ensures.once m c.args.parent))
+    rw c.first-from.ensures (IsAmong-head (children_of f c.args.parent) (λ m. child-once f c.state_law.ensures.once m c.args.parent))
 
 pub returns : goal.returns
 returns c =
@@ -19,5 +19,5 @@ returns c =
     (ap (λ o. children_ahead c.child_at-until.result (from_optional o (children_of f c.args.parent))) c.first-from.ensures
     ∙ ap (children_ahead c.child_at-until.result) (from_optional-head (children_of f c.args.parent))
     ∙ ap (λ o. children_ahead o (children_of f c.args.parent)) c.child_at-until.ensures
-    ∙ ahead-got c.args.offset (children_of f c.args.parent) (λ m. child-once f c.sound.ensures.once m c.args.parent))
+    ∙ ahead-got c.args.offset (children_of f c.args.parent) (λ m. child-once f c.state_law.ensures.once m c.args.parent))
     c.children_between.ensures

@@ -7,4 +7,4 @@ pub next-requires : goal.next-requires
 next-requires c = way-held c.args.tree.now.forest c.args.parent c.args.point.node c.args.path.now c.in-Some.child c.requires.way (sym c.head.ensures ∙ c.in-Some.is)
 
 pub returns-in-Some : goal.returns-in-Some
-returns-in-Some c = c.next.ensures ∙ behind-some c.args.tree.now.forest c.sound.ensures.once c.args.parent c.args.point c.args.path.now c.in-Some.child c.requires.way (sym c.head.ensures ∙ c.in-Some.is)
+returns-in-Some c = c.next.ensures ∙ behind-some c.args.tree.now.forest c.state_law.ensures.once c.args.parent c.args.point c.args.path.now c.in-Some.child c.requires.way (sym c.head.ensures ∙ c.in-Some.is)

@@ -14,7 +14,7 @@ returns-in_err-tail-clause-err c =
     let read = c.body_mut-content.ensures.value in
     on_err c.from_residual.result
     (ap (λ g. record { forest = g; made = c.args.tree.now.made })
-    (ap (λ (b : Content). with_node n (λ x. record x { body = b }) f) c.in_err-tail.ensures.err ∙ body-written f c.sound.ensures.once n v read))
+    (ap (λ (b : Content). with_node n (λ x. record x { body = b }) f) c.in_err-tail.ensures.err ∙ body-written f c.state_law.ensures.once n v read))
 
 pub body_mut-place-requires : goal.body_mut-place-requires
 body_mut-place-requires c =
@@ -23,5 +23,5 @@ body_mut-place-requires c =
 pub returns-clause-ok : goal.returns-clause-ok
 returns-clause-ok c =
     ap (λ g. record { forest = g; made = c.args.tree.now.made })
-    (tail-moved c.args.tree.now.forest c.sound.ensures.once c.args.node c.args.offset c.args.new c.body_mut-content.result.now c.requires.held c.requires.within c.requires.bare c.body_mut-content.ensures.value
+    (tail-moved c.args.tree.now.forest c.state_law.ensures.once c.args.node c.args.offset c.args.new c.body_mut-content.result.now c.requires.held c.requires.within c.requires.bare c.body_mut-content.ensures.value
     c.split_off.new.self c.in_ok-tail.tail c.in_ok-tail.ensures.head c.in_ok-tail.ensures.tail)

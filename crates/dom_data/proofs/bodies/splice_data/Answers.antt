@@ -11,11 +11,11 @@ returns-clause-ok c =
     let n = c.args.node in
     let v = c.body_mut-content.result.now in
     let read = c.body_mut-content.ensures.value in
-    let units = ap (λ (b : Content). b.text) (content-read f c.sound.ensures.once n v c.requires.held read) in
+    let units = ap (λ (b : Content). b.text) (content-read f c.state_law.ensures.once n v c.requires.held read) in
     on_ok_weaker c.splice-outcome.result (λ ok.
     ap (λ g. record { forest = g; made = c.args.tree.now.made })
     (ap (λ (b : Content). with_node n (λ x. record x { body = b }) f) ok
-    ∙ data-written f c.sound.ensures.once n v read (spliced c.args.offset c.args.count c.args.added.now v.text)
+    ∙ data-written f c.state_law.ensures.once n v read (spliced c.args.offset c.args.count c.args.added.now v.text)
     ∙ ap (λ text. with_node n (with_data text) f) (ap (spliced c.args.offset c.args.count c.args.added.now) units)))
     c.splice-outcome.ensures.ok
 
@@ -27,5 +27,5 @@ returns-clause-err c =
     let read = c.body_mut-content.ensures.value in
     on_err_weaker c.splice-outcome.result (λ err.
     ap (λ g. record { forest = g; made = c.args.tree.now.made })
-    (ap (λ (b : Content). with_node n (λ x. record x { body = b }) f) err ∙ body-written f c.sound.ensures.once n v read))
+    (ap (λ (b : Content). with_node n (λ x. record x { body = b }) f) err ∙ body-written f c.state_law.ensures.once n v read))
     c.splice-outcome.ensures.err

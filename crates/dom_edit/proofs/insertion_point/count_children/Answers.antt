@@ -9,7 +9,7 @@ loop-child-init c = rw (c.into_iter-child-iterator.ensures.into_iter_gives, c.ch
 pub is_of_kind-requires : goal.is_of_kind-requires
 is_of_kind-requires c =
     let within = rw c.in-Some.ensures.steps at c.loop-child.invariant.within in
-    HasNode-child c.args.tree.now c.sound.ensures c.args.parent c.in-Some.child (first-among c.in-Some.child c.next.new.self (children_of c.args.tree.now.forest c.args.parent) within)
+    HasNode-child c.args.tree.now c.state_law.ensures c.args.parent c.in-Some.child (first-among c.in-Some.child c.next.new.self (children_of c.args.tree.now.forest c.args.parent) within)
 
 pub overflow_add-count : goal.overflow_add-count
 overflow_add-count c =

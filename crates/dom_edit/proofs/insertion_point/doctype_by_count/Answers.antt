@@ -9,12 +9,12 @@ use Rattle.dom_edit.proofs.insertion_point.doctype_by_count.Goals as goal
 pub returns-then-doctypes-ne0 : goal.returns-then-doctypes-ne0
 returns-then-doctypes-ne0 c n =
     let g = c.args.tree.now in
-    doctype-there g.forest c.args.document c.args.place c.requires.under (λ m e. listed-once g c.sound.ensures c.args.document m e) n (omega (arith, c.in_ok-doctypes.ensures, c.if-doctypes-ne0.true))
+    doctype-there g.forest c.args.document c.args.place c.requires.under (λ m e. listed-once g c.state_law.ensures c.args.document m e) n (omega (arith, c.in_ok-doctypes.ensures, c.if-doctypes-ne0.true))
 
 pub returns-then-elements-eq0 : goal.returns-then-elements-eq0
 returns-then-elements-eq0 c n =
     let g = c.args.tree.now in
-    doctype-alone g.forest c.args.document c.args.place c.requires.under (λ m e. listed-once g c.sound.ensures c.args.document m e) n
+    doctype-alone g.forest c.args.document c.args.place c.requires.under (λ m e. listed-once g c.state_law.ensures c.args.document m e) n
     (omega (arith, c.in_ok-doctypes.ensures, c.if-doctypes-ne0.false)) (omega (arith, c.in_ok-elements.ensures, c.if-elements-eq0.true))
 
 pub returns-then-is_none : goal.returns-then-is_none
@@ -27,5 +27,5 @@ returns c =
     let f = c.args.tree.now.forest in
     let p = c.args.document in
     if-told (λ ahead. ahead ≡ has_kind Element f (children_ahead (child_of c.args.place) (children_of f p))) (λ refused. (n : ℕ) → refused ≡ refuses c.args.place DocumentType f p n) c.is_ahead.result
-    (λ ahead e n. doctype-ordered f p c.args.place c.requires.under (λ m e. listed-once c.args.tree.now c.sound.ensures p m e) n (omega (arith, c.in_ok-doctypes.ensures, c.if-doctypes-ne0.false)) ahead e)
+    (λ ahead e n. doctype-ordered f p c.args.place c.requires.under (λ m e. listed-once c.args.tree.now c.state_law.ensures p m e) n (omega (arith, c.in_ok-doctypes.ensures, c.if-doctypes-ne0.false)) ahead e)
     c.is_ahead.ensures

@@ -6,4 +6,4 @@ pub returns : goal.returns
 returns c n =
     let g = c.args.tree.now in
     c.refuses_element.ensures
-    ∙ element-refused g.forest c.args.document c.args.place c.look_around.result c.requires.under c.look_around.ensures (λ m e. listed-once g c.sound.ensures c.args.document m e) n
+    ∙ element-refused g.forest c.args.document c.args.place c.look_around.result c.requires.under c.look_around.ensures (λ m e. listed-once g c.state_law.ensures c.args.document m e) n

@@ -4,7 +4,7 @@ use Rattle.dom_edit.proofs.{IsAmongLemmas.from-among, IsAmongLemmas.first-among,
 use Rattle.dom_edit.proofs.insertion_point.found_between.Goals as goal
 
 pub children_from-child-items-requires : goal.children_from-child-items-requires
-children_from-child-items-requires c = parent-among c.args.tree.now c.sound.ensures c.args.parent c.args.from c.requires.child
+children_from-child-items-requires c = parent-among c.args.tree.now c.state_law.ensures c.args.parent c.args.from c.requires.child
 
 pub loop-child-init : goal.loop-child-init
 loop-child-init c =
@@ -15,12 +15,12 @@ loop-child-init c =
 pub is_of_kind-element-requires : goal.is_of_kind-element-requires
 is_of_kind-element-requires c =
     let within = rw c.in-Some.ensures.steps at c.loop-child.invariant.within in
-    HasNode-child c.args.tree.now c.sound.ensures c.args.parent c.in-Some.child (first-among c.in-Some.child c.next.new.self (children_of c.args.tree.now.forest c.args.parent) within)
+    HasNode-child c.args.tree.now c.state_law.ensures c.args.parent c.in-Some.child (first-among c.in-Some.child c.next.new.self (children_of c.args.tree.now.forest c.args.parent) within)
 
 pub is_of_kind-doctype-requires : goal.is_of_kind-doctype-requires
 is_of_kind-doctype-requires c =
     let within = rw c.in-Some.ensures.steps at c.loop-child.invariant.within in
-    HasNode-child c.args.tree.now c.sound.ensures c.args.parent c.in-Some.child (first-among c.in-Some.child c.next.new.self (children_of c.args.tree.now.forest c.args.parent) within)
+    HasNode-child c.args.tree.now c.state_law.ensures c.args.parent c.in-Some.child (first-among c.in-Some.child c.next.new.self (children_of c.args.tree.now.forest c.args.parent) within)
 
 pub returns-then-is_number : goal.returns-then-is_number
 returns-then-is_number c =

@@ -81,14 +81,14 @@ returns-then-not-may_be_parent c =
 pub returns-then-is_inside : goal.returns-then-is_inside
 returns-then-is_inside c =
     let g = c.args.tree.now in
-    let i = above-at g c.sound.ensures c.at-node_at.result c.at-parent_at.result c.args.node c.args.parent c.is_inside.result c.at-node_at.ensures.tree c.at-node_at.ensures.node c.at-parent_at.ensures.node c.is_inside.ensures in
+    let i = above-at g c.state_law.ensures c.at-node_at.result c.at-parent_at.result c.args.node c.args.parent c.is_inside.result c.at-node_at.ensures.tree c.at-node_at.ensures.node c.at-parent_at.ensures.node c.is_inside.ensures in
     inside c.args.place g.forest c.args.parent c.args.node (i ∙ c.if-is_inside.true)
 
 pub returns-else-is_inside : goal.returns-else-is_inside
 returns-else-is_inside c =
     let g = c.args.tree.now in
     let above = kinds-at c.at-parent_at.result g c.args.parent c.kind_at-above.result c.at-parent_at.ensures.tree c.at-parent_at.ensures.node c.kind_at-above.ensures in
-    let i = above-at g c.sound.ensures c.at-node_at.result c.at-parent_at.result c.args.node c.args.parent c.is_inside.result c.at-node_at.ensures.tree c.at-node_at.ensures.node c.at-parent_at.ensures.node c.is_inside.ensures in
+    let i = above-at g c.state_law.ensures c.at-node_at.result c.at-parent_at.result c.args.node c.args.parent c.is_inside.result c.at-node_at.ensures.tree c.at-node_at.ensures.node c.at-parent_at.ensures.node c.is_inside.ensures in
     let e = ap (λ o. if_given (λ m. not (is_number (parent_of g.forest m) c.args.parent)) o) (sym c.child.ensures) ∙ sym c.is_elsewhere.ensures in
     elsewhere c.args.place g.forest c.args.parent c.args.node (above may_be_parent ∙ sym c.may_be_parent.ensures ∙ c.if-not-may_be_parent.false) (i ∙ c.if-is_inside.false) (e ∙ c.if-is_elsewhere.true)
 
@@ -106,7 +106,7 @@ returns-then-is_misplaced c =
           let m : (is_of_kind Document f n || is_misplaced f p n) ≡ true = rw (kind (is_kind Document), misplaced-at g n p c.kind_at-kind.result c.kind_at-above.result kind above) (sym c.is_misplaced.ensures ∙ w.if-is_misplaced.true) in
           misplaced c.args.place f p n (above may_be_parent ∙ sym c.may_be_parent.ensures ∙ c.if-not-may_be_parent.false) (e ∙ c.if-is_elsewhere.false) m
       | then-is_misplaced-via-else-is_misplaced+then-is_inside-2 w ↦
-          let i = above-at g c.sound.ensures c.at-node_at.result c.at-parent_at.result n p w.is_inside-else-is_misplaced.result c.at-node_at.ensures.tree c.at-node_at.ensures.node c.at-parent_at.ensures.node w.is_inside-else-is_misplaced.ensures in
+          let i = above-at g c.state_law.ensures c.at-node_at.result c.at-parent_at.result n p w.is_inside-else-is_misplaced.result c.at-node_at.ensures.tree c.at-node_at.ensures.node c.at-parent_at.ensures.node w.is_inside-else-is_misplaced.ensures in
           inside c.args.place f p n (i ∙ w.if-is_inside-2.true)
     ]
 
@@ -118,7 +118,7 @@ returns-then-is_refused c =
     let n = c.args.node in
     let above = kinds-at c.at-parent_at.result g p c.kind_at-above.result c.at-parent_at.ensures.tree c.at-parent_at.ensures.node c.kind_at-above.ensures in
     let kind = kinds-at c.at-node_at.result g n c.kind_at-kind.result c.at-node_at.ensures.tree c.at-node_at.ensures.node c.kind_at-kind.ensures in
-    let i = above-at g c.sound.ensures c.at-node_at.result c.at-parent_at.result n p c.is_inside-else-is_misplaced.result c.at-node_at.ensures.tree c.at-node_at.ensures.node c.at-parent_at.ensures.node c.is_inside-else-is_misplaced.ensures in
+    let i = above-at g c.state_law.ensures c.at-node_at.result c.at-parent_at.result n p c.is_inside-else-is_misplaced.result c.at-node_at.ensures.tree c.at-node_at.ensures.node c.at-parent_at.ensures.node c.is_inside-else-is_misplaced.ensures in
     let e = ap (λ o. if_given (λ m. not (is_number (parent_of f m) p)) o) (sym c.child.ensures) ∙ sym c.is_elsewhere.ensures in
     let m = sym c.is_misplaced.ensures ∙ c.if-is_misplaced.false in
     let same : is_kind Document c.kind_at-above.result ≡ c.eq.result = search (tests, rules) in
@@ -134,7 +134,7 @@ returns c =
     let n = c.args.node in
     let above = kinds-at c.at-parent_at.result g p c.kind_at-above.result c.at-parent_at.ensures.tree c.at-parent_at.ensures.node c.kind_at-above.ensures in
     let kind = kinds-at c.at-node_at.result g n c.kind_at-kind.result c.at-node_at.ensures.tree c.at-node_at.ensures.node c.kind_at-kind.ensures in
-    let i = above-at g c.sound.ensures c.at-node_at.result c.at-parent_at.result n p c.is_inside-else-is_misplaced.result c.at-node_at.ensures.tree c.at-node_at.ensures.node c.at-parent_at.ensures.node c.is_inside-else-is_misplaced.ensures in
+    let i = above-at g c.state_law.ensures c.at-node_at.result c.at-parent_at.result n p c.is_inside-else-is_misplaced.result c.at-node_at.ensures.tree c.at-node_at.ensures.node c.at-parent_at.ensures.node c.is_inside-else-is_misplaced.ensures in
     let e = ap (λ o. if_given (λ m. not (is_number (parent_of f m) p)) o) (sym c.child.ensures) ∙ sym c.is_elsewhere.ensures in
     let m = sym c.is_misplaced.ensures ∙ c.if-is_misplaced.false in
     let same : is_kind Document c.kind_at-above.result ≡ c.eq.result = search (tests, rules) in

@@ -19,7 +19,7 @@ returns-then-is_none c =
     c.eq.ensures
     ∙ ap (λ m. m == c.number-end.result) c.number.ensures
     ∙ ap (λ m. c.args.node.node == m) c.number-end.ensures
-    ∙ sym (inside-alone c.sound.ensures.forest c.args.top.now.node c.sound.ensures.there bare c.args.node.node)
+    ∙ sym (inside-alone c.state_law.ensures.forest c.args.top.now.node c.state_law.ensures.there bare c.args.node.node)
 
 pub returns-in_default : goal.returns-in_default
 returns-in_default c =
@@ -29,7 +29,7 @@ returns-in_default c =
     let met = ap (λ m. m == top) (sym c.number-in-loop-here.ensures) ∙ ap (λ m. c.number-in-loop-here.result == m) (sym c.number-end.ensures) in
     let off : (here == top) ≡ false = met ∙ not-true (c.number-in-loop-here.result == c.number-end.result) (sym c.ne.ensures ∙ c.loop-here-test.true) in
     let none = told c.loop-here.invariant.tree (λ (t : Grove Content). parent_of t.forest here) c.parent.ensures.node ∙ ap node_at c.in_default.is in
-    among-top c.sound.ensures.forest top here c.loop-here.invariant.there none off ∙ c.loop-here.invariant.same ∙ inside-same c.sound.ensures.forest top c.args.node.node
+    among-top c.state_law.ensures.forest top here c.loop-here.invariant.there none off ∙ c.loop-here.invariant.same ∙ inside-same c.state_law.ensures.forest top c.args.node.node
 
 pub loop-here-smaller : goal.loop-here-smaller
 loop-here-smaller c =
@@ -37,7 +37,7 @@ loop-here-smaller c =
     let here = c.loop-here.here.node in
     let next = c.in-Some.above.node in
     let up = told c.loop-here.invariant.tree (λ (t : Grove Content). parent_of t.forest here) c.parent.ensures.node ∙ ap node_at c.in-Some.is in
-    shorter f here next (above c.sound.ensures.forest here next c.loop-here.invariant.there up)
+    shorter f here next (above c.state_law.ensures.forest here next c.loop-here.invariant.there up)
 
 pub loop-here-preserved : goal.loop-here-preserved
 loop-here-preserved c =
@@ -48,7 +48,7 @@ loop-here-preserved c =
     let met = ap (λ m. m == top) (sym c.number-in-loop-here.ensures) ∙ ap (λ m. c.number-in-loop-here.result == m) (sym c.number-end.ensures) in
     let off : (here == top) ≡ false = met ∙ not-true (c.number-in-loop-here.result == c.number-end.result) (sym c.ne.ensures ∙ c.loop-here-test.true) in
     let up = told c.loop-here.invariant.tree (λ (t : Grove Content). parent_of t.forest here) c.parent.ensures.node ∙ ap node_at c.in-Some.is in
-    let a = above c.sound.ensures.forest here next c.loop-here.invariant.there up in
+    let a = above c.state_law.ensures.forest here next c.loop-here.invariant.there up in
     record {
       tree = c.parent.ensures.tree c.in-Some.above c.in-Some.is ∙ c.loop-here.invariant.tree;
       there = a.there;
@@ -62,4 +62,4 @@ returns c =
     let here = c.loop-here.here.node in
     let met = ap (λ m. m == top) (sym c.number-in-loop-here.ensures) ∙ ap (λ m. c.number-in-loop-here.result == m) (sym c.number-end.ensures) in
     let on : (here == top) ≡ true = met ∙ not-false (c.number-in-loop-here.result == c.number-end.result) (sym c.ne.ensures ∙ c.loop-here-test.false) in
-    among-here f top here c.loop-here.invariant.there on ∙ c.loop-here.invariant.same ∙ inside-same c.sound.ensures.forest top c.args.node.node
+    among-here f top here c.loop-here.invariant.there on ∙ c.loop-here.invariant.same ∙ inside-same c.state_law.ensures.forest top c.args.node.node

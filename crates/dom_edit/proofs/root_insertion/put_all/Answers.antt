@@ -20,6 +20,6 @@ loop-node-preserved c =
     record {
       same = subst (λ (h : Grove Content). all_placed parent child (drop (i + 1) xs) h.forest ≡ all_placed parent child xs c.args.tree.now.forest) e same;
       made = subst (λ (h : Grove Content). h.made ≡ c.args.tree.now.made) e c.loop-node.invariant.made;
-      ready = subst (λ (h : Grove Content). IsOpen h.forest parent child (drop (i + 1) xs)) e (open-next g c.sound.ensures parent n child (drop (i + 1) xs) ready);
-      owned = subst (λ (h : Grove Content). IsOwnedWell h.forest) e (owned-next g c.sound.ensures parent n child (drop (i + 1) xs) ready c.loop-node.invariant.owned);
+      ready = subst (λ (h : Grove Content). IsOpen h.forest parent child (drop (i + 1) xs)) e (open-next g c.state_law.ensures parent n child (drop (i + 1) xs) ready);
+      owned = subst (λ (h : Grove Content). IsOwnedWell h.forest) e (owned-next g c.state_law.ensures parent n child (drop (i + 1) xs) ready c.loop-node.invariant.owned);
     }

@@ -22,7 +22,7 @@ loop-key-init c = record {
   agree = λ have. have;
   lasting = refl;
   queues = refl;
-  sound = c.sound.ensures;
+  sound = c.state_law.ensures;
 }
 
 pub returns-in_err-add-clause-stay : goal.returns-in_err-add-clause-stay
@@ -131,7 +131,7 @@ loop-key-preserved c =
                 (alone-made u lists c.args.node (slice_index_or keys i 0) (plain w.in-Some.made) inv.sound.placed some);
             lasting = lasting-same c.loop-key.roster w.in-Some.made.observer w.get_mut-kept.result.now w.get_mut-kept.ensures.value (record w.get_mut-kept.result.now { passing = w.add.new.keys }) refl ∙ inv.lasting;
             queues = queues-same c.loop-key.roster w.in-Some.made.observer w.get_mut-kept.result.now w.get_mut-kept.ensures.value (record w.get_mut-kept.result.now { passing = w.add.new.keys }) refl ∙ inv.queues;
-            sound = w.sound-in-Some.ensures;
+            sound = w.state_law-in-Some.ensures;
           })
       | in_default w ↦
           let none : transient_under u own c.args.node (slice_index_or keys i 0) ≡ None = ap (λ ks. transient_under u ks c.args.node (slice_index_or keys i 0)) (sym c.keys_on-in-loop-key.ensures) ∙ sym c.in_ok-made.ensures ∙ ap (option_map plain) w.in_default.is in

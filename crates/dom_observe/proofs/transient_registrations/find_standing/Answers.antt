@@ -21,13 +21,13 @@ loop-here-init g c = record {
 pub loop-here-smaller : goal.loop-here-smaller
 loop-here-smaller g c =
     let up = parent-told c.loop-here.here c.args.tree.now c.loop-here.invariant.tree c.parent.result c.parent.ensures.node ∙ ap node_at c.in-Some.is in
-    shorter c.args.tree.now.forest c.loop-here.here.node c.in-Some.parent.node (above c.sound.ensures c.loop-here.here.node c.in-Some.parent.node c.loop-here.invariant.there up)
+    shorter c.args.tree.now.forest c.loop-here.here.node c.in-Some.parent.node (above c.state_law.ensures c.loop-here.here.node c.in-Some.parent.node c.loop-here.invariant.there up)
 
 pub loop-here-preserved : goal.loop-here-preserved
 loop-here-preserved g c =
     let inv = c.loop-here.invariant in
     let up = parent-told c.loop-here.here c.args.tree.now inv.tree c.parent.result c.parent.ensures.node ∙ ap node_at c.in-Some.is in
-    let a = above c.sound.ensures c.loop-here.here.node c.in-Some.parent.node inv.there up in
+    let a = above c.state_law.ensures c.loop-here.here.node c.in-Some.parent.node inv.there up in
     record {
       tree = c.parent.ensures.tree c.in-Some.parent c.in-Some.is ∙ inv.tree;
       there = a.there;
@@ -39,7 +39,7 @@ pub returns-in-None : goal.returns-in-None
 returns-in-None g c =
     let inv = c.loop-here.invariant in
     let up = parent-told c.loop-here.here c.args.tree.now inv.tree c.parent.result c.parent.ensures.node ∙ ap node_at c.in-None.is in
-    let p = root-path c.args.tree.now.forest c.sound.ensures.once c.loop-here.here.node (occurs-HasNode c.args.tree.now.forest c.loop-here.here.node inv.there) up in
+    let p = root-path c.args.tree.now.forest c.state_law.ensures.once c.loop-here.here.node (occurs-HasNode c.args.tree.now.forest c.loop-here.here.node inv.there) up in
     sym (append-nil c.push_all.new.keys.items)
     ∙ climbed (λ n. on n c.args.registrations.now.lists) c.loop-here.keys.items c.keys_on.result.now c.push_all.new.keys.items _ c.loop-here.here.node []
     (ancestors c.loop-here.here.node c.args.tree.now.forest) p (c.keys_on.ensures ∙ ap (λ n. on n c.args.registrations.now.lists) c.number.ensures) c.in_ok-push_all.ensures inv.so_far

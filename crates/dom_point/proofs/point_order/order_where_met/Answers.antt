@@ -31,7 +31,7 @@ returns-in-None-None g c =
     let v = rw c.in-None-None.is-0 at a in
     let b : IsOnWay f q.node c.args.met.node c.args.met.second = on_way f q c.args.b c.args.met.node c.args.met.second c.b.view_is c.requires.second in
     let w = rw c.in-None-None.is-1 at b in
-    c.cmp.ensures ∙ sym (order-same c.sound.ensures p q (v.through ∙ sym w.through)) ∙ both f p q c.args.a c.args.b c.a.view_is c.b.view_is
+    c.cmp.ensures ∙ sym (order-same c.state_law.ensures p q (v.through ∙ sym w.through)) ∙ both f p q c.args.a c.args.b c.a.view_is c.b.view_is
 
 pub returns-in-None-Some : goal.returns-in-None-Some
 returns-in-None-Some g c =
@@ -44,7 +44,7 @@ returns-in-None-Some g c =
     let w = rw c.in-None-Some.is-1 at b in
     let hq = held_at f q c.args.b c.b.view_is c.requires.b_held in
     let z = le-ltb (index_of f c.in-None-Some.field-0-1) p.offset (omega (arith, c.if-a-eq0.true)) in
-    sym (order-at_first c.sound.ensures p q c.args.met.node c.in-None-Some.field-0-1 hq v w ∙ ap (λ t. if t then Greater else Less) z)
+    sym (order-at_first c.state_law.ensures p q c.args.met.node c.in-None-Some.field-0-1 hq v w ∙ ap (λ t. if t then Greater else Less) z)
     ∙ both f p q c.args.a c.args.b c.a.view_is c.b.view_is
 
 pub returns-in-None-Some-2 : goal.returns-in-None-Some-2
@@ -60,7 +60,7 @@ returns-in-None-Some-2 g c =
     c.side.ensures
     ∙ turned c.index.result p.offset
     ∙ ap (λ i. if nat_lt i p.offset then Greater else Less) c.index.ensures
-    ∙ sym (order-at_first c.sound.ensures p q c.args.met.node c.in-None-Some.field-0-1 hq v w)
+    ∙ sym (order-at_first c.state_law.ensures p q c.args.met.node c.in-None-Some.field-0-1 hq v w)
     ∙ both f p q c.args.a c.args.b c.a.view_is c.b.view_is
 
 pub returns-in-Some-None : goal.returns-in-Some-None
@@ -74,7 +74,7 @@ returns-in-Some-None g c =
     let w = rw c.in-Some-None.is-1 at b in
     let hp = held_at f p c.args.a c.a.view_is c.requires.a_held in
     let z = le-ltb (index_of f c.in-Some-None.field-0-0) q.offset (omega (arith, c.if-b-eq0.true)) in
-    sym (order-at_second c.sound.ensures p q c.args.met.node c.in-Some-None.field-0-0 hp v w ∙ ap (λ t. if t then Less else Greater) z)
+    sym (order-at_second c.state_law.ensures p q c.args.met.node c.in-Some-None.field-0-0 hp v w ∙ ap (λ t. if t then Less else Greater) z)
     ∙ both f p q c.args.a c.args.b c.a.view_is c.b.view_is
 
 pub returns-in-Some-None-2 : goal.returns-in-Some-None-2
@@ -89,7 +89,7 @@ returns-in-Some-None-2 g c =
     let hp = held_at f p c.args.a c.a.view_is c.requires.a_held in
     c.side-in-Some-None-2.ensures
     ∙ ap (λ i. if nat_lt i q.offset then Less else Greater) c.index-in-Some-None-2.ensures
-    ∙ sym (order-at_second c.sound.ensures p q c.args.met.node c.in-Some-None.field-0-0 hp v w)
+    ∙ sym (order-at_second c.state_law.ensures p q c.args.met.node c.in-Some-None.field-0-0 hp v w)
     ∙ both f p q c.args.a c.args.b c.a.view_is c.b.view_is
 
 pub returns-in-Some-Some : goal.returns-in-Some-Some
@@ -106,5 +106,5 @@ returns-in-Some-Some g c =
     let hq = held_at f q c.args.b c.b.view_is c.requires.b_held in
     c.side-in-Some-Some.ensures
     ∙ ap (λ v. if v then Less else Greater) c.comes_before.ensures
-    ∙ sym (order-between c.sound.ensures p q c.args.met.node c.in-Some-Some.first c.in-Some-Some.second hp hq v w ne)
+    ∙ sym (order-between c.state_law.ensures p q c.args.met.node c.in-Some-Some.first c.in-Some-Some.second hp hq v w ne)
     ∙ both f p q c.args.a c.args.b c.a.view_is c.b.view_is

@@ -15,7 +15,7 @@ loop-count-init g c = record {
   tree = c.at-here.ensures.tree;
   copying =
       subst (λ n. IsCopying c.args.tree.now.forest c.args.root c.args.start g.R.NodeRow.row_of c.args.into.now c.args.into.now n 0) (sym c.at-here.ensures.node)
-      (copying-first c.args.tree.now c.sound.ensures c.args.root c.args.start g.R.NodeRow.row_of c.args.into.now c.requires.held c.requires.inside);
+      (copying-first c.args.tree.now c.state_law.ensures c.args.root c.args.start g.R.NodeRow.row_of c.args.into.now c.requires.held c.requires.inside);
 }
 
 pub loop-count-preserved : goal.loop-count-preserved
@@ -35,7 +35,7 @@ loop-count-preserved g c =
       tree = c.next_inside.ensures.tree c.in-Some.next c.in-Some.is ∙ l.invariant.tree;
       copying =
           subst (λ r. IsCopying f root c.args.start tell c.args.into.now (slice_set l.into l.count r) m (l.count + 1)) (sym c.row_of.ensures)
-          (copying-next c.args.tree.now c.sound.ensures root c.args.start tell c.args.into.now l.into l.here.node l.count x l.invariant.copying is m on inside);
+          (copying-next c.args.tree.now c.state_law.ensures root c.args.start tell c.args.into.now l.into l.here.node l.count x l.invariant.copying is m on inside);
     }
 
 pub returns-in-None-clause-part : goal.returns-in-None-clause-part
@@ -49,7 +49,7 @@ returns-in-None-clause-part g c =
     told l.invariant.tree (λ (t : Grove g.row.X.Denot). after l.here.node (inclusive_descendants t.forest root)) c.next_inside.ensures.node ∙ ap node_at c.in-None.is
     in
     let is = subst (λ (t : Grove g.row.X.Denot). IfSome (entry_in t.forest l.here.node) (λ e. x ≡ node_of l.here.node e)) l.invariant.tree c.node_at.ensures in
-    copied-part c.args.tree.now c.sound.ensures root c.args.start g.R.NodeRow.row_of c.args.into.now l.into l.here.node l.count x l.invariant.copying is on inside
+    copied-part c.args.tree.now c.state_law.ensures root c.args.start g.R.NodeRow.row_of c.args.into.now l.into l.here.node l.count x l.invariant.copying is on inside
 
 pub returns-in-None-clause-copied : goal.returns-in-None-clause-copied
 returns-in-None-clause-copied g c =
@@ -63,11 +63,11 @@ returns-in-None-clause-copied g c =
     in
     let is = subst (λ (t : Grove g.row.X.Denot). IfSome (entry_in t.forest l.here.node) (λ e. x ≡ node_of l.here.node e)) l.invariant.tree c.node_at.ensures in
     ap (slice_set l.into l.count) c.row_of.ensures
-    ∙ copied-all c.args.tree.now c.sound.ensures root c.args.start g.R.NodeRow.row_of c.args.into.now l.into l.here.node l.count x l.invariant.copying is on inside
+    ∙ copied-all c.args.tree.now c.state_law.ensures root c.args.start g.R.NodeRow.row_of c.args.into.now l.into l.here.node l.count x l.invariant.copying is on inside
 
 pub returns-clause-part : goal.returns-clause-part
 returns-clause-part g c =
     let l = c.loop-count in
     let full : l.count ≡ length l.into = omega (arith, l.invariant.copying.within, c.loop-count-test.false) in
     ap (λ n. part l.count (Some n)) c.number.ensures
-    ∙ full-part c.args.tree.now c.sound.ensures c.args.root c.args.start g.R.NodeRow.row_of c.args.into.now l.into l.here.node l.count l.invariant.copying full
+    ∙ full-part c.args.tree.now c.state_law.ensures c.args.root c.args.start g.R.NodeRow.row_of c.args.into.now l.into l.here.node l.count l.invariant.copying full

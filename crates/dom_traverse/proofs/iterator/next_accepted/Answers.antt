@@ -35,7 +35,7 @@ returns-then-accepts g c =
     let v = told there (λ (t : Grove g.row.X.Denot). accepts t.forest filter c.in-Some.next.node) c.accepts.ensures ∙ c.if-accepts.true in
     ap Some c.number.ensures
     ∙ sym (c.loop-next.invariant.same
-    ∙ following-on f c.sound.ensures.once root filter here c.in-Some.next.node on
+    ∙ following-on f c.state_law.ensures.once root filter here c.in-Some.next.node on
     ∙ ap (λ b. if b then Some c.in-Some.next.node else following_found f filter root c.in-Some.next.node) v)
 
 pub loop-next-smaller : goal.loop-next-smaller
@@ -46,7 +46,7 @@ loop-next-smaller g c =
     let on : after here (inclusive_descendants f root) ≡ Some c.in-Some.next.node =
     told c.loop-next.invariant.tree (λ (t : Grove g.row.X.Denot). after here (inclusive_descendants t.forest root)) c.next_inside.ensures.node ∙ ap node_at c.in-Some.is
     in
-    following-fewer f c.sound.ensures.once root here c.in-Some.next.node on
+    following-fewer f c.state_law.ensures.once root here c.in-Some.next.node on
 
 pub loop-next-preserved : goal.loop-next-preserved
 loop-next-preserved g c =
@@ -61,10 +61,10 @@ loop-next-preserved g c =
     let v = told there (λ (t : Grove g.row.X.Denot). accepts t.forest filter c.in-Some.next.node) c.accepts.ensures ∙ c.if-accepts.false in
     record {
       tree = there;
-      under = following-inside f c.sound.ensures.once root here c.in-Some.next.node on;
+      under = following-inside f c.state_law.ensures.once root here c.in-Some.next.node on;
       same =
           c.loop-next.invariant.same
-          ∙ following-on f c.sound.ensures.once root filter here c.in-Some.next.node on
+          ∙ following-on f c.state_law.ensures.once root filter here c.in-Some.next.node on
           ∙ ap (λ b. if b then Some c.in-Some.next.node else following_found f filter root c.in-Some.next.node) v;
     }
 
@@ -74,4 +74,4 @@ returns g c =
     let root = c.args.root in
     let here = c.loop-next.here.node in
     let on = told c.loop-next.invariant.tree (λ (t : Grove g.row.X.Denot). after here (inclusive_descendants t.forest root)) c.next_inside.ensures.node ∙ ap node_at c.in_default.is in
-    sym (c.loop-next.invariant.same ∙ following-end f c.sound.ensures.once root c.args.filter.now here on)
+    sym (c.loop-next.invariant.same ∙ following-end f c.state_law.ensures.once root c.args.filter.now here on)

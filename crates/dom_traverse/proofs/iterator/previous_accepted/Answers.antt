@@ -35,7 +35,7 @@ returns-then-accepts g c =
     let v = told there (λ (t : Grove g.row.X.Denot). accepts t.forest filter c.in-Some.previous.node) c.accepts.ensures ∙ c.if-accepts.true in
     ap Some c.number.ensures
     ∙ sym (c.loop-previous.invariant.same
-    ∙ preceding-on f c.sound.ensures.once root filter here c.in-Some.previous.node c.loop-previous.invariant.under on
+    ∙ preceding-on f c.state_law.ensures.once root filter here c.in-Some.previous.node c.loop-previous.invariant.under on
     ∙ ap (λ b. if b then Some c.in-Some.previous.node else preceding_found f filter root c.in-Some.previous.node) v)
 
 pub loop-previous-smaller : goal.loop-previous-smaller
@@ -46,7 +46,7 @@ loop-previous-smaller g c =
     let on : before here (inclusive_descendants f root) ≡ Some c.in-Some.previous.node =
     told c.loop-previous.invariant.tree (λ (t : Grove g.row.X.Denot). before here (inclusive_descendants t.forest root)) c.previous_inside.ensures.node ∙ ap node_at c.in-Some.is
     in
-    preceding-fewer f c.sound.ensures.once root here c.in-Some.previous.node c.loop-previous.invariant.under on
+    preceding-fewer f c.state_law.ensures.once root here c.in-Some.previous.node c.loop-previous.invariant.under on
 
 pub loop-previous-preserved : goal.loop-previous-preserved
 loop-previous-preserved g c =
@@ -61,10 +61,10 @@ loop-previous-preserved g c =
     let v = told there (λ (t : Grove g.row.X.Denot). accepts t.forest filter c.in-Some.previous.node) c.accepts.ensures ∙ c.if-accepts.false in
     record {
       tree = there;
-      under = preceding-inside f c.sound.ensures.once root here c.in-Some.previous.node on;
+      under = preceding-inside f c.state_law.ensures.once root here c.in-Some.previous.node on;
       same =
           c.loop-previous.invariant.same
-          ∙ preceding-on f c.sound.ensures.once root filter here c.in-Some.previous.node c.loop-previous.invariant.under on
+          ∙ preceding-on f c.state_law.ensures.once root filter here c.in-Some.previous.node c.loop-previous.invariant.under on
           ∙ ap (λ b. if b then Some c.in-Some.previous.node else preceding_found f filter root c.in-Some.previous.node) v;
     }
 
@@ -74,4 +74,4 @@ returns g c =
     let root = c.args.root in
     let here = c.loop-previous.here.node in
     let on = told c.loop-previous.invariant.tree (λ (t : Grove g.row.X.Denot). before here (inclusive_descendants t.forest root)) c.previous_inside.ensures.node ∙ ap node_at c.in_default.is in
-    sym (c.loop-previous.invariant.same ∙ preceding-end f c.sound.ensures.once root c.args.filter.now here c.loop-previous.invariant.under on)
+    sym (c.loop-previous.invariant.same ∙ preceding-end f c.state_law.ensures.once root c.args.filter.now here c.loop-previous.invariant.under on)

@@ -4,4 +4,4 @@ use Rattle.dom_slots.proofs.SlotEntryLemmas.{by_slot-set}
 use Rattle.dom_traverse.proofs.located.slot_of.Goals as goal
 
 pub returns-clause-written : goal.returns-clause-written
-returns-clause-written g c = λ x. by_slot-set c.sound.ensures.slotted c.args.number c.unwrap.result (sym c.slot.ensures.slot ∙ c.unwrap.ensures) x
+returns-clause-written g c = λ x. by_slot-set c.state_law.ensures.slotted c.args.number c.unwrap.result (sym c.slot.ensures.slot ∙ c.unwrap.ensures) x

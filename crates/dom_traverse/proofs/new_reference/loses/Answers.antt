@@ -5,4 +5,4 @@ use Rattle.dom_traverse.proofs.new_reference.loses.Goals as goal
 
 pub returns-then-ne : goal.returns-then-ne
 returns-then-ne g c =
-    rw (sym c.ne.ensures ∙ c.if-ne.true) (c.is_ancestor.ensures ∙ sym (among-inside c.args.tree.now.forest c.sound.ensures.once c.args.node c.args.root))
+    rw (sym c.ne.ensures ∙ c.if-ne.true) (c.is_ancestor.ensures ∙ sym (among-inside c.args.tree.now.forest c.state_law.ensures.once c.args.node c.args.root))

@@ -14,17 +14,17 @@ loop-next-init g c = record {
 
 pub give_way-last-requires-clause-inside : goal.give_way-last-requires-clause-inside
 give_way-last-requires-clause-inside g c =
-    among-inside c.args.tree.now.forest c.sound.ensures.once c.loop-next.here c.args.node ∙ (c.loop-next.invariant.leaving c.sound.ensures).at.under
+    among-inside c.args.tree.now.forest c.state_law.ensures.once c.loop-next.here c.args.node ∙ (c.loop-next.invariant.leaving c.state_law.ensures).at.under
 
 pub next_inside-requires-clause-held : goal.next_inside-requires-clause-held
-next_inside-requires-clause-held g c = (c.loop-next.invariant.leaving c.sound.ensures).at.there
+next_inside-requires-clause-held g c = (c.loop-next.invariant.leaving c.state_law.ensures).at.there
 
 pub next_inside-requires-clause-under : goal.next_inside-requires-clause-under
-next_inside-requires-clause-under g c = (c.loop-next.invariant.leaving c.sound.ensures).at.under
+next_inside-requires-clause-under g c = (c.loop-next.invariant.leaving c.state_law.ensures).at.under
 
 pub loop-next-smaller : goal.loop-next-smaller
 loop-next-smaller g c =
-    smaller c.args.tree.now c.sound.ensures c.args.node c.loop-next.here c.in-Some.next (sym c.next_inside.ensures ∙ c.in-Some.is)
+    smaller c.args.tree.now c.state_law.ensures c.args.node c.loop-next.here c.in-Some.next (sym c.next_inside.ensures ∙ c.in-Some.is)
 
 pub loop-next-preserved : goal.loop-next-preserved
 loop-next-preserved g c = record {
@@ -37,4 +37,4 @@ loop-next-preserved g c = record {
 
 pub returns-in_default-clause-removed : goal.returns-in_default-clause-removed
 returns-in_default-clause-removed g c =
-    leaving-end c.args.tree.now c.sound.ensures c.args.node c.args.iterators.now.items c.loop-next.iterators.items c.give_way-last.new.iterators.items c.loop-next.here (c.loop-next.invariant.leaving c.sound.ensures) (sym c.next_inside.ensures ∙ c.in_default.is) c.give_way-last.ensures.gave
+    leaving-end c.args.tree.now c.state_law.ensures c.args.node c.args.iterators.now.items c.loop-next.iterators.items c.give_way-last.new.iterators.items c.loop-next.here (c.loop-next.invariant.leaving c.state_law.ensures) (sym c.next_inside.ensures ∙ c.in_default.is) c.give_way-last.ensures.gave

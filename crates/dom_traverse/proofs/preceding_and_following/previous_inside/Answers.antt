@@ -11,7 +11,7 @@ returns-then-eq-clause-node g c =
     let f = c.args.node.now.tree.forest in
     let n = c.args.node.now.node in
     let e : (n == c.args.top) ≡ true = ap (λ m. m == c.args.top) (sym c.number.ensures) ∙ sym c.eq.ensures ∙ c.if-eq.true in
-    sym (before-inside f c.sound.ensures.forest.once c.args.top n c.requires ∙ ap (λ v. if v then None else led_back f (previous_of f n) (parent_of f n)) e)
+    sym (before-inside f c.state_law.ensures.forest.once c.args.top n c.requires ∙ ap (λ v. if v then None else led_back f (previous_of f n) (parent_of f n)) e)
 
 pub returns-in-Some-clause-tree : goal.returns-in-Some-clause-tree
 returns-in-Some-clause-tree g c =
@@ -25,7 +25,7 @@ returns-in-Some-clause-node g c =
     let p : previous_of f n ≡ Some c.in-Some.sibling.node = sym c.prev.ensures.node ∙ ap node_at c.in-Some.is in
     c.last_inside.ensures.node
     ∙ ap (λ (t : Grove g.row.X.Denot). last_of (inclusive_descendants t.forest c.in-Some.sibling.node)) (c.prev.ensures.tree c.in-Some.sibling c.in-Some.is)
-    ∙ sym (before-inside f c.sound.ensures.forest.once c.args.top n c.requires
+    ∙ sym (before-inside f c.state_law.ensures.forest.once c.args.top n c.requires
     ∙ ap (λ v. if v then None else led_back f (previous_of f n) (parent_of f n)) e
     ∙ ap (λ o. led_back f o (parent_of f n)) p)
 
@@ -36,6 +36,6 @@ returns-in-None-clause-node g c =
     let e : (n == c.args.top) ≡ false = ap (λ m. m == c.args.top) (sym c.number.ensures) ∙ sym c.eq.ensures ∙ c.if-eq.false in
     let p : previous_of f n ≡ None = sym c.prev.ensures.node ∙ ap node_at c.in-None.is in
     c.parent.ensures.node
-    ∙ sym (before-inside f c.sound.ensures.forest.once c.args.top n c.requires
+    ∙ sym (before-inside f c.state_law.ensures.forest.once c.args.top n c.requires
     ∙ ap (λ v. if v then None else led_back f (previous_of f n) (parent_of f n)) e
     ∙ ap (λ o. led_back f o (parent_of f n)) p)

@@ -12,7 +12,7 @@ returns-in_err-child g c =
     let f = c.args.tree.now.forest in
     let filter = c.args.filter.now in
     let course : SiblingWalk = record { root = c.args.root; current = c.args.current; side = c.args.side; limit = Current } in
-    let walks = child-walks f c.sound.ensures.once filter c.args.root c.args.current (occurs-HasNode f c.args.current c.requires) c.args.side in
+    let walks = child-walks f c.state_law.ensures.once filter c.args.root c.args.current (occurs-HasNode f c.args.current c.requires) c.args.side in
     let first = told_at c.at.ensures.tree c.at.ensures.node (λ (t : Grove g.row.X.Denot) (n : ℕ). child_on c.args.side t.forest n) c.child.ensures.node in
     let none : c.from_residual.result ≡ None = search rules in
     none ∙ begin_none (child_on c.args.side f c.args.current) walks (first ∙ ap node_at c.in_err-child.was)
@@ -22,7 +22,7 @@ run-requires g c =
     let f = c.args.tree.now.forest in
     let filter = c.args.filter.now in
     let course : SiblingWalk = record { root = c.args.root; current = c.args.current; side = c.args.side; limit = Current } in
-    let walks = child-walks f c.sound.ensures.once filter c.args.root c.args.current (occurs-HasNode f c.args.current c.requires) c.args.side in
+    let walks = child-walks f c.state_law.ensures.once filter c.args.root c.args.current (occurs-HasNode f c.args.current c.requires) c.args.side in
     let first = told_at c.at.ensures.tree c.at.ensures.node (λ (t : Grove g.row.X.Denot) (n : ℕ). child_on c.args.side t.forest n) c.child.ensures.node in
     let there = c.child.ensures.tree c.in_ok-child.child c.in_ok-child.was ∙ c.at.ensures.tree in
     let on = begin_some (child_on c.args.side f c.args.current) (ended None) c.in_ok-child.child.node walks (first ∙ ap node_at c.in_ok-child.was) in
@@ -33,7 +33,7 @@ returns g c =
     let f = c.args.tree.now.forest in
     let filter = c.args.filter.now in
     let course : SiblingWalk = record { root = c.args.root; current = c.args.current; side = c.args.side; limit = Current } in
-    let walks = child-walks f c.sound.ensures.once filter c.args.root c.args.current (occurs-HasNode f c.args.current c.requires) c.args.side in
+    let walks = child-walks f c.state_law.ensures.once filter c.args.root c.args.current (occurs-HasNode f c.args.current c.requires) c.args.side in
     let first = told_at c.at.ensures.tree c.at.ensures.node (λ (t : Grove g.row.X.Denot) (n : ℕ). child_on c.args.side t.forest n) c.child.ensures.node in
     let there = c.child.ensures.tree c.in_ok-child.child c.in_ok-child.was ∙ c.at.ensures.tree in
     let on = begin_some (child_on c.args.side f c.args.current) (ended None) c.in_ok-child.child.node walks (first ∙ ap node_at c.in_ok-child.was) in

@@ -8,7 +8,7 @@ use Rattle.dom_traverse.proofs.SpotLemmas.{told}
 use Rattle.dom_traverse.proofs.walker_moves.end_of.Goals as goal
 
 pub loop-here-init : goal.loop-here-init
-loop-here-init g c = record { tree = refl; there = c.sound.ensures.there; descends = begun }
+loop-here-init g c = record { tree = refl; there = c.state_law.ensures.there; descends = begun }
 
 pub loop-here-smaller : goal.loop-here-smaller
 loop-here-smaller g c =
@@ -16,7 +16,7 @@ loop-here-smaller g c =
     let here = c.loop-here.here.node in
     let e = c.loop-here.invariant.tree in
     let last = told e (λ (t : Grove g.row.X.Denot). last_of (children_of t.forest here)) c.last.ensures.node ∙ ap node_at c.in-Some.is in
-    let below = last-down c.sound.ensures.forest here c.in-Some.last.node c.loop-here.invariant.there last in
+    let below = last-down c.state_law.ensures.forest here c.in-Some.last.node c.loop-here.invariant.there last in
     below.1.0
 
 pub loop-here-preserved : goal.loop-here-preserved
@@ -25,7 +25,7 @@ loop-here-preserved g c =
     let here = c.loop-here.here.node in
     let e = c.loop-here.invariant.tree in
     let last = told e (λ (t : Grove g.row.X.Denot). last_of (children_of t.forest here)) c.last.ensures.node ∙ ap node_at c.in-Some.is in
-    let below = last-down c.sound.ensures.forest here c.in-Some.last.node c.loop-here.invariant.there last in
+    let below = last-down c.state_law.ensures.forest here c.in-Some.last.node c.loop-here.invariant.there last in
     let n : rejects f c.args.filter.now here ≡ false = told e (λ (t : Grove g.row.X.Denot). rejects t.forest c.args.filter.now here) c.rejects.ensures ∙ c.loop-here-test.true in
     record {
       tree = c.last.ensures.tree c.in-Some.last c.in-Some.is ∙ e;

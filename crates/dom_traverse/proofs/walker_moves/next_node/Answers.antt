@@ -14,7 +14,7 @@ run-requires g c =
     let course : SiblingWalk = record { root = c.args.root; current = c.args.current; side = First; limit = Root } in
     let first = told_at c.at-here.ensures.tree c.at-here.ensures.node (λ (t : Grove g.row.X.Denot) (n : ℕ). head_of (children_of t.forest n)) c.first.ensures.node in
     let there = c.first.ensures.tree c.in-Some.child c.in-Some.is ∙ c.at-here.ensures.tree in
-    let on = begin_some (head_of (children_of f c.args.current)) (leaving c.args.current) c.in-Some.child.node (following-walks f c.sound.ensures.once filter c.args.root c.args.current (occurs-HasNode f c.args.current c.requires)) (first ∙ ap node_at c.in-Some.is) in
+    let on = begin_some (head_of (children_of f c.args.current)) (leaving c.args.current) c.in-Some.child.node (following-walks f c.state_law.ensures.once filter c.args.root c.args.current (occurs-HasNode f c.args.current c.requires)) (first ∙ ap node_at c.in-Some.is) in
     subst (λ (t : Grove g.row.X.Denot). Ending t.forest filter course (at c.in-Some.child.node)) (sym there) on.ends
 
 pub returns-in-Some : goal.returns-in-Some
@@ -24,7 +24,7 @@ returns-in-Some g c =
     let course : SiblingWalk = record { root = c.args.root; current = c.args.current; side = First; limit = Root } in
     let first = told_at c.at-here.ensures.tree c.at-here.ensures.node (λ (t : Grove g.row.X.Denot) (n : ℕ). head_of (children_of t.forest n)) c.first.ensures.node in
     let there = c.first.ensures.tree c.in-Some.child c.in-Some.is ∙ c.at-here.ensures.tree in
-    let on = begin_some (head_of (children_of f c.args.current)) (leaving c.args.current) c.in-Some.child.node (following-walks f c.sound.ensures.once filter c.args.root c.args.current (occurs-HasNode f c.args.current c.requires)) (first ∙ ap node_at c.in-Some.is) in
+    let on = begin_some (head_of (children_of f c.args.current)) (leaving c.args.current) c.in-Some.child.node (following-walks f c.state_law.ensures.once filter c.args.root c.args.current (occurs-HasNode f c.args.current c.requires)) (first ∙ ap node_at c.in-Some.is) in
     c.run.ensures ∙ ap (λ (t : Grove g.row.X.Denot). found_from t.forest filter course (at c.in-Some.child.node)) there ∙ on.finds
 
 pub past-requires : goal.past-requires
@@ -33,7 +33,7 @@ past-requires g c =
     let filter = c.args.filter.now in
     let course : SiblingWalk = record { root = c.args.root; current = c.args.current; side = First; limit = Root } in
     let first = told_at c.at-here.ensures.tree c.at-here.ensures.node (λ (t : Grove g.row.X.Denot) (n : ℕ). head_of (children_of t.forest n)) c.first.ensures.node in
-    let walks = following-leave f c.sound.ensures.once filter c.args.root c.args.current (occurs-HasNode f c.args.current c.requires) (first ∙ ap node_at c.in_default.is) in
+    let walks = following-leave f c.state_law.ensures.once filter c.args.root c.args.current (occurs-HasNode f c.args.current c.requires) (first ∙ ap node_at c.in_default.is) in
     gone_at c.at-here.ensures.tree c.at-here.ensures.node (λ (t : Grove g.row.X.Denot) (n : ℕ). Ending t.forest filter course (past_in t.forest filter course n)) walks.ends
 
 pub returns-in_err-next : goal.returns-in_err-next
@@ -42,7 +42,7 @@ returns-in_err-next g c =
     let filter = c.args.filter.now in
     let course : SiblingWalk = record { root = c.args.root; current = c.args.current; side = First; limit = Root } in
     let first = told_at c.at-here.ensures.tree c.at-here.ensures.node (λ (t : Grove g.row.X.Denot) (n : ℕ). head_of (children_of t.forest n)) c.first.ensures.node in
-    let walks = following-leave f c.sound.ensures.once filter c.args.root c.args.current (occurs-HasNode f c.args.current c.requires) (first ∙ ap node_at c.in_default.is) in
+    let walks = following-leave f c.state_law.ensures.once filter c.args.root c.args.current (occurs-HasNode f c.args.current c.requires) (first ∙ ap node_at c.in_default.is) in
     let leads = come_at c.at-here.ensures.tree c.at-here.ensures.node (λ (t : Grove g.row.X.Denot) (n : ℕ). LeadsTo t.forest filter course (past_in t.forest filter course n) (at_or (node_at c.past.result) (ended None))) c.past.ensures.leads in
     let none : c.from_residual.result ≡ None = search rules in
     none ∙ come_none _ (node_at c.past.result) walks leads (ap node_at c.in_err-next.was)
@@ -53,7 +53,7 @@ run-requires-2 g c =
     let filter = c.args.filter.now in
     let course : SiblingWalk = record { root = c.args.root; current = c.args.current; side = First; limit = Root } in
     let first = told_at c.at-here.ensures.tree c.at-here.ensures.node (λ (t : Grove g.row.X.Denot) (n : ℕ). head_of (children_of t.forest n)) c.first.ensures.node in
-    let walks = following-leave f c.sound.ensures.once filter c.args.root c.args.current (occurs-HasNode f c.args.current c.requires) (first ∙ ap node_at c.in_default.is) in
+    let walks = following-leave f c.state_law.ensures.once filter c.args.root c.args.current (occurs-HasNode f c.args.current c.requires) (first ∙ ap node_at c.in_default.is) in
     let leads = come_at c.at-here.ensures.tree c.at-here.ensures.node (λ (t : Grove g.row.X.Denot) (n : ℕ). LeadsTo t.forest filter course (past_in t.forest filter course n) (at_or (node_at c.past.result) (ended None))) c.past.ensures.leads in
     let there = c.past.ensures.tree c.in_ok-next.next c.in_ok-next.was ∙ c.at-here.ensures.tree in
     let on = come_some _ (node_at c.past.result) c.in_ok-next.next.node walks leads (ap node_at c.in_ok-next.was) in
@@ -65,7 +65,7 @@ returns g c =
     let filter = c.args.filter.now in
     let course : SiblingWalk = record { root = c.args.root; current = c.args.current; side = First; limit = Root } in
     let first = told_at c.at-here.ensures.tree c.at-here.ensures.node (λ (t : Grove g.row.X.Denot) (n : ℕ). head_of (children_of t.forest n)) c.first.ensures.node in
-    let walks = following-leave f c.sound.ensures.once filter c.args.root c.args.current (occurs-HasNode f c.args.current c.requires) (first ∙ ap node_at c.in_default.is) in
+    let walks = following-leave f c.state_law.ensures.once filter c.args.root c.args.current (occurs-HasNode f c.args.current c.requires) (first ∙ ap node_at c.in_default.is) in
     let leads = come_at c.at-here.ensures.tree c.at-here.ensures.node (λ (t : Grove g.row.X.Denot) (n : ℕ). LeadsTo t.forest filter course (past_in t.forest filter course n) (at_or (node_at c.past.result) (ended None))) c.past.ensures.leads in
     let there = c.past.ensures.tree c.in_ok-next.next c.in_ok-next.was ∙ c.at-here.ensures.tree in
     let on = come_some _ (node_at c.past.result) c.in_ok-next.next.node walks leads (ap node_at c.in_ok-next.was) in

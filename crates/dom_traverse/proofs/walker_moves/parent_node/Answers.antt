@@ -18,7 +18,7 @@ loop-here-init g c =
       tree = c.at-here.ensures.tree;
       walks =
           subst (λ n. Walks (parent_step f c.args.filter.now c.args.root c.args.current) (4 * size f) (leaving n) (parent_by_steps f c.args.filter.now c.args.root c.args.current)) (sym c.at-here.ensures.node)
-          (parent-walks f c.sound.ensures.once c.args.filter.now c.args.root c.args.current (occurs-HasNode f c.args.current c.requires));
+          (parent-walks f c.state_law.ensures.once c.args.filter.now c.args.root c.args.current (occurs-HasNode f c.args.current c.requires));
     }
 
 pub returns-in_err-here : goal.returns-in_err-here

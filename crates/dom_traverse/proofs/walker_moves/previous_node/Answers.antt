@@ -18,7 +18,7 @@ loop-sibling-init g c =
       tree = c.at-here.ensures.tree;
       walks =
           subst (λ n. Walks (previous_step f c.args.filter.now c.args.root c.args.current) (4 * size f) (back_past_node f c.args.filter.now c.args.root c.args.current n) (previous_by_steps f c.args.filter.now c.args.root c.args.current)) (sym c.at-here.ensures.node)
-          (Walks-on (previous-walks f c.sound.ensures.once c.args.filter.now c.args.root c.args.current (occurs-HasNode f c.args.current c.requires) (sym c.eq.ensures ∙ c.if-eq.false))
+          (Walks-on (previous-walks f c.state_law.ensures.once c.args.filter.now c.args.root c.args.current (occurs-HasNode f c.args.current c.requires) (sym c.eq.ensures ∙ c.if-eq.false))
           (LeadsOn-leaving (previous_step f c.args.filter.now c.args.root c.args.current) (4 * size f) c.args.current (back_past_node f c.args.filter.now c.args.root c.args.current c.args.current) refl).leads);
     }
 

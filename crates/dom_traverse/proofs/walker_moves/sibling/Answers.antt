@@ -12,7 +12,7 @@ past-requires g c =
     let f = c.args.tree.now.forest in
     let filter = c.args.filter.now in
     let course : SiblingWalk = record { root = c.args.root; current = c.args.current; side = c.args.side; limit = Accepted } in
-    let walks = sibling-walks f c.sound.ensures.once filter c.args.root c.args.current (occurs-HasNode f c.args.current c.requires) c.args.side (sym c.eq.ensures ∙ c.if-eq.false) in
+    let walks = sibling-walks f c.state_law.ensures.once filter c.args.root c.args.current (occurs-HasNode f c.args.current c.requires) c.args.side (sym c.eq.ensures ∙ c.if-eq.false) in
     gone_at c.at.ensures.tree c.at.ensures.node (λ (t : Grove g.row.X.Denot) (n : ℕ). Ending t.forest filter course (past_in t.forest filter course n)) walks.ends
 
 pub returns-in_err-sibling : goal.returns-in_err-sibling
@@ -20,7 +20,7 @@ returns-in_err-sibling g c =
     let f = c.args.tree.now.forest in
     let filter = c.args.filter.now in
     let course : SiblingWalk = record { root = c.args.root; current = c.args.current; side = c.args.side; limit = Accepted } in
-    let walks = sibling-walks f c.sound.ensures.once filter c.args.root c.args.current (occurs-HasNode f c.args.current c.requires) c.args.side (sym c.eq.ensures ∙ c.if-eq.false) in
+    let walks = sibling-walks f c.state_law.ensures.once filter c.args.root c.args.current (occurs-HasNode f c.args.current c.requires) c.args.side (sym c.eq.ensures ∙ c.if-eq.false) in
     let leads = come_at c.at.ensures.tree c.at.ensures.node (λ (t : Grove g.row.X.Denot) (n : ℕ). LeadsTo t.forest filter course (past_in t.forest filter course n) (at_or (node_at c.past.result) (ended None))) c.past.ensures.leads in
     let none : c.from_residual.result ≡ None = search rules in
     none ∙ come_none _ (node_at c.past.result) walks leads (ap node_at c.in_err-sibling.was)
@@ -30,7 +30,7 @@ run-requires g c =
     let f = c.args.tree.now.forest in
     let filter = c.args.filter.now in
     let course : SiblingWalk = record { root = c.args.root; current = c.args.current; side = c.args.side; limit = Accepted } in
-    let walks = sibling-walks f c.sound.ensures.once filter c.args.root c.args.current (occurs-HasNode f c.args.current c.requires) c.args.side (sym c.eq.ensures ∙ c.if-eq.false) in
+    let walks = sibling-walks f c.state_law.ensures.once filter c.args.root c.args.current (occurs-HasNode f c.args.current c.requires) c.args.side (sym c.eq.ensures ∙ c.if-eq.false) in
     let leads = come_at c.at.ensures.tree c.at.ensures.node (λ (t : Grove g.row.X.Denot) (n : ℕ). LeadsTo t.forest filter course (past_in t.forest filter course n) (at_or (node_at c.past.result) (ended None))) c.past.ensures.leads in
     let there = c.past.ensures.tree c.in_ok-sibling.sibling c.in_ok-sibling.was ∙ c.at.ensures.tree in
     let on = come_some _ (node_at c.past.result) c.in_ok-sibling.sibling.node walks leads (ap node_at c.in_ok-sibling.was) in
@@ -41,7 +41,7 @@ returns g c =
     let f = c.args.tree.now.forest in
     let filter = c.args.filter.now in
     let course : SiblingWalk = record { root = c.args.root; current = c.args.current; side = c.args.side; limit = Accepted } in
-    let walks = sibling-walks f c.sound.ensures.once filter c.args.root c.args.current (occurs-HasNode f c.args.current c.requires) c.args.side (sym c.eq.ensures ∙ c.if-eq.false) in
+    let walks = sibling-walks f c.state_law.ensures.once filter c.args.root c.args.current (occurs-HasNode f c.args.current c.requires) c.args.side (sym c.eq.ensures ∙ c.if-eq.false) in
     let leads = come_at c.at.ensures.tree c.at.ensures.node (λ (t : Grove g.row.X.Denot) (n : ℕ). LeadsTo t.forest filter course (past_in t.forest filter course n) (at_or (node_at c.past.result) (ended None))) c.past.ensures.leads in
     let there = c.past.ensures.tree c.in_ok-sibling.sibling c.in_ok-sibling.was ∙ c.at.ensures.tree in
     let on = come_some _ (node_at c.past.result) c.in_ok-sibling.sibling.node walks leads (ap node_at c.in_ok-sibling.was) in

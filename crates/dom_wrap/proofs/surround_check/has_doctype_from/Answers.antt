@@ -7,7 +7,7 @@ use Rattle.dom_wrap.proofs.AllowCode.{found-first}
 use Rattle.dom_wrap.proofs.surround_check.has_doctype_from.Goals as goal
 
 pub children_from-child-items-requires : goal.children_from-child-items-requires
-children_from-child-items-requires c = parent-among c.args.tree.now c.sound.ensures c.args.parent c.args.first c.requires.under
+children_from-child-items-requires c = parent-among c.args.tree.now c.state_law.ensures c.args.parent c.args.first c.requires.under
 
 pub loop-child-init : goal.loop-child-init
 loop-child-init c =
@@ -19,7 +19,7 @@ pub is_of_kind-requires : goal.is_of_kind-requires
 is_of_kind-requires c =
     let within = rw c.in-Some.ensures.steps at c.loop-child.invariant.within in
     let here = first-among c.in-Some.child c.next.new.self (children_of c.args.tree.now.forest c.args.parent) within in
-    HasNode-child c.args.tree.now c.sound.ensures c.args.parent c.in-Some.child here
+    HasNode-child c.args.tree.now c.state_law.ensures c.args.parent c.in-Some.child here
 
 pub returns-then-is_of_kind : goal.returns-then-is_of_kind
 returns-then-is_of_kind c =

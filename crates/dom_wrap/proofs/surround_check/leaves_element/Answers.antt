@@ -15,12 +15,12 @@ pub is_left_element-requires-clause-held : goal.is_left_element-requires-clause-
 is_left_element-requires-clause-held c =
     let within = rw c.in-Some.ensures.steps at c.loop-child.invariant.within in
     let here = first-among c.in-Some.child c.next.new.self (children_of c.args.world.now.tree.forest c.args.parent) within in
-    HasNode-child c.args.world.now.tree c.sound.ensures c.args.parent c.in-Some.child here
+    HasNode-child c.args.world.now.tree c.state_law.ensures c.args.parent c.in-Some.child here
 
 pub is_left_element-requires-clause-start_root : goal.is_left_element-requires-clause-start_root
 is_left_element-requires-clause-start_root c =
     let f = c.args.world.now.tree.forest in
-    let once = c.sound.ensures.once in
+    let once = c.state_law.ensures.once in
     let within = rw c.in-Some.ensures.steps at c.loop-child.invariant.within in
     let here = first-among c.in-Some.child c.next.new.self (children_of f c.args.parent) within in
     root-child f once c.in-Some.child c.args.parent (child-there f once c.in-Some.child c.args.parent here) (child-parent f once c.in-Some.child c.args.parent here) ∙ c.requires.start_root
@@ -28,7 +28,7 @@ is_left_element-requires-clause-start_root c =
 pub is_left_element-requires-clause-end_root : goal.is_left_element-requires-clause-end_root
 is_left_element-requires-clause-end_root c =
     let f = c.args.world.now.tree.forest in
-    let once = c.sound.ensures.once in
+    let once = c.state_law.ensures.once in
     let within = rw c.in-Some.ensures.steps at c.loop-child.invariant.within in
     let here = first-among c.in-Some.child c.next.new.self (children_of f c.args.parent) within in
     root-child f once c.in-Some.child c.args.parent (child-there f once c.in-Some.child c.args.parent here) (child-parent f once c.in-Some.child c.args.parent here) ∙ c.requires.end_root

@@ -10,4 +10,4 @@ returns-clause-inside c t x e =
     let root : HasNode f c.state-state.result.0 = search rules in
     let under : among c.state-state.result.0 (ancestors c.state-state.result.1 f) ≡ true = search rules in
     let same = rw e at c.state-state.ensures in
-    read-inside f c.sound.ensures.once x c.state-state.result.0 c.state-state.result.1 (ap (λ s. s.0) same) (ap (λ s. s.1) same) root under
+    read-inside f c.state_law.ensures.once x c.state-state.result.0 c.state-state.result.1 (ap (λ s. s.0) same) (ap (λ s. s.1) same) root under

@@ -7,5 +7,5 @@ use Rattle.uses.proofs.tree.detach.Goals as goal
 pub returns-clause-root : goal.returns-clause-root
 returns-clause-root c =
     let n = c.args.node in
-    ap (λ g. parent_of g.forest n) c.cut.ensures ∙ parent-cut c.args.tree.now.forest c.sound.ensures.once n n
+    ap (λ g. parent_of g.forest n) c.cut.ensures ∙ parent-cut c.args.tree.now.forest c.state_law.ensures.once n n
     ∙ elim (same_or n n) [ same e v ↦ rw v refl | apart ne v ↦ absurd (ne refl) ]

@@ -33,7 +33,7 @@ invariant_of-self c =
     let lasting : lasting_by roster' ≡ slice_set (lasting_by a.roster) o [] = lasting-set a.roster o kept' ∙ ap (slice_set (lasting_by a.roster) o) c.end_all.ensures.lasting in
     let passing : passing_by roster' ≡ slice_set (passing_by a.roster) o [] = passing-set a.roster o kept' ∙ ap (slice_set (passing_by a.roster) o) c.end_all.ensures.passing in
     let stand = stand-ended u v (Of o) lists lists' c.end_all.ensures.left c.end_all.ensures.swept (has_queue qs) c.self.invariant.0.stand in
-    let kept = kept-others a.registrations qs a.pending.keys c.self.invariant.0 c.end_all.new.self c.sound.ensures stand in
+    let kept = kept-others a.registrations qs a.pending.keys c.self.invariant.0 c.end_all.new.self c.state_law.ensures stand in
     let known : AllThere (has_queue (queues_by roster')) a.fleeting.keys =
     subst (λ q. AllThere (has_queue q) a.fleeting.keys) (sym queues)
     (all_imply (λ p. has_queue qs p ≡ true) (λ p. has_queue (slice_set qs o (Some [])) p ≡ true) (λ p there. has-set qs o held_there [] p ∙ there) a.fleeting.keys c.self.invariant.1.known) in (
@@ -79,7 +79,7 @@ returns-clause-names c =
     let roster' = slice_set a.roster o (Some kept') in
     let queues : queues_by roster' ≡ slice_set qs o (Some []) = queues-set a.roster o kept' ∙ ap (λ q. slice_set qs o (Some q)) c.take.ensures.emptied in
     let stand = stand-ended u v (Of o) lists lists' c.end_all.ensures.left c.end_all.ensures.swept (has_queue qs) c.self.invariant.0.stand in
-    let kept = kept-others a.registrations qs a.pending.keys c.self.invariant.0 c.end_all.new.self c.sound.ensures stand in
+    let kept = kept-others a.registrations qs a.pending.keys c.self.invariant.0 c.end_all.new.self c.state_law.ensures stand in
     let emptied = subst (λ q. HoldsInvariant c.end_all.new.self q a.pending.keys) (sym queues)
     (kept-emptied c.end_all.new.self qs a.pending.keys kept o held_there) in
     names-only a.registrations qs a.pending.keys c.args.self.now c.self.view_is c.end_all.new.self (queues_by roster') a.pending.keys emptied []

@@ -25,7 +25,7 @@ pub invariant_of-result : goal.invariant_of-result
 invariant_of-result c =
     let none = sym c.new-registrations.ensures in (
       record {
-        are = c.sound.ensures;
+        are = c.state_law.ensures;
         stand = subst (λ r. AllStand (at r) (has_queue (queues_by c.new.result)) r.lists) none (λ n. tt);
         there = search (tests, rules);
       },

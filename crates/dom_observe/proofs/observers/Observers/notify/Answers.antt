@@ -20,7 +20,7 @@ invariant_of-self-2 c =
     let same : (i : ℕ) → has_queue qs' i ≡ has_queue qs i = λ i. ap (λ q. has_queue q i) c.end_transients.ensures.queues ∙ has-same a.roster c.gather.new.roster c.gather.ensures.keys i in
     let stand = stand-ended u v Transient lists lists' c.end_transients.ensures.left c.end_transients.ensures.swept (has_queue qs) c.self.invariant.0.stand in
     let kept : HoldsInvariant c.end_transients.new.self qs' c.clear.new.self.keys = record {
-      are = c.sound.ensures;
+      are = c.state_law.ensures;
       stand = stand-alike v (has_queue qs) (has_queue qs') lists' (λ i there. same i ∙ there) stand;
       there = subst (AllThere (has_queue qs')) (sym c.clear.ensures.empty) tt;
     } in (
@@ -83,7 +83,7 @@ returns-clause-names c =
     let same : (i : ℕ) → has_queue qs' i ≡ has_queue qs i = λ i. ap (λ q. has_queue q i) c.end_transients.ensures.queues ∙ has-same a.roster c.gather.new.roster c.gather.ensures.keys i in
     let stand = stand-ended u v Transient lists lists' c.end_transients.ensures.left c.end_transients.ensures.swept (has_queue qs) c.self.invariant.0.stand in
     let kept : HoldsInvariant c.end_transients.new.self qs' c.clear.new.self.keys = record {
-      are = c.sound.ensures;
+      are = c.state_law.ensures;
       stand = stand-alike v (has_queue qs) (has_queue qs') lists' (λ i there. same i ∙ there) stand;
       there = subst (AllThere (has_queue qs')) (sym c.clear.ensures.empty) tt;
     } in

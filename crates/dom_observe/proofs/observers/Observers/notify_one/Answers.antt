@@ -35,7 +35,7 @@ invariant_of-self c =
     passing-set a.roster o kept' ∙ ap (slice_set (passing_by a.roster) o) (c.end_own.ensures.keys ∙ ap (filter (is_live v)) (sym had)) in
     let lasting = lasting-same a.roster o c.get_mut-kept.result.now c.get_mut-kept.ensures.value kept' refl in
     let stand = stand-ended u v (TransientOf o) lists lists' left c.end_own.ensures.swept there c.self.invariant.0.stand in
-    let kept = kept-others a.registrations qs a.pending.keys c.self.invariant.0 c.end_own.new.self c.sound.ensures stand in (
+    let kept = kept-others a.registrations qs a.pending.keys c.self.invariant.0 c.end_own.new.self c.state_law.ensures stand in (
       subst (λ q. HoldsInvariant c.end_own.new.self q a.pending.keys) (sym queues)
           (kept-emptied c.end_own.new.self qs a.pending.keys kept o held_there),
       indexed-by v a.fleeting.keys roster' (lasting_by a.roster) (slice_set (passing_by a.roster) o (filter (is_live v) (slice_index_or (passing_by a.roster) o []))) there lasting passing
@@ -110,7 +110,7 @@ returns-clause-names c =
     let roster' = slice_set a.roster o (Some kept') in
     let queues : queues_by roster' ≡ slice_set qs o (Some []) = queues-set a.roster o kept' ∙ ap (λ q. slice_set qs o (Some q)) c.take.ensures.emptied in
     let stand = stand-ended u v (TransientOf o) lists lists' left c.end_own.ensures.swept there c.self.invariant.0.stand in
-    let kept = kept-others a.registrations qs a.pending.keys c.self.invariant.0 c.end_own.new.self c.sound.ensures stand in
+    let kept = kept-others a.registrations qs a.pending.keys c.self.invariant.0 c.end_own.new.self c.state_law.ensures stand in
     let emptied = subst (λ q. HoldsInvariant c.end_own.new.self q a.pending.keys) (sym queues)
     (kept-emptied c.end_own.new.self qs a.pending.keys kept o held_there) in
     names-only a.registrations qs a.pending.keys c.args.self.now c.self.view_is c.end_own.new.self (queues_by roster') a.pending.keys emptied []

@@ -57,7 +57,7 @@ invariant_of-self c =
     passing-set a.roster o (record c.get_mut-kept.result.now { passing = c.end_from.new.keys }) ∙ ap (slice_set (passing_by a.roster) o) (c.end_from.ensures.keys ∙ ap (filter (is_live v)) (sym had)) in
     let lasting = lasting-same a.roster o c.get_mut-kept.result.now c.get_mut-kept.ensures.value (record c.get_mut-kept.result.now { passing = c.end_from.new.keys }) refl in (
       subst (λ qs. HoldsInvariant c.set_options.new.self qs a.pending.keys) (sym same)
-          (kept-others a.registrations (queues_by a.roster) a.pending.keys c.self.invariant.0 c.set_options.new.self c.sound.ensures stand),
+          (kept-others a.registrations (queues_by a.roster) a.pending.keys c.self.invariant.0 c.set_options.new.self c.state_law.ensures stand),
       indexed-by w a.fleeting.keys roster' (lasting_by a.roster) (slice_set (passing_by a.roster) o (filter (is_live v) (slice_index_or (passing_by a.roster) o []))) there lasting passing (λ i yet. ap (λ qs. has_queue qs i) same ∙ yet)
           (indexed-changed v w (lasting_by a.roster) (slice_set (passing_by a.roster) o (filter (is_live v) (slice_index_or (passing_by a.roster) o []))) a.fleeting.keys there c.in-Some.key c.args.options.value c.set_options.ensures.changed c.set_options.ensures.others
           (indexed-passing_ended u v (lasting_by a.roster) (passing_by a.roster) a.fleeting.keys there o (From o c.args.node) c.self.invariant.1 _ (within-passing a.roster o held_there) ended refl)),
@@ -123,7 +123,7 @@ invariant_of-self-in-None c =
     subst (λ r. IsIndexed (at r) (lasting_by roster') (passing_by a.roster) a.fleeting.keys there) (sym same_one)
     (subst (λ l. IsIndexed u l (passing_by a.roster) a.fleeting.keys there) (sym (lasting-same a.roster o kept c.get_mut-kept-in-None.ensures.value kept' own)) c.self.invariant.1)) in (
       subst (λ qs. HoldsInvariant c.add-added.new.self qs a.pending.keys) (sym same)
-          (kept-others a.registrations (queues_by a.roster) a.pending.keys c.self.invariant.0 c.add-added.new.self c.sound-in-None.ensures stand),
+          (kept-others a.registrations (queues_by a.roster) a.pending.keys c.self.invariant.0 c.add-added.new.self c.state_law-in-None.ensures stand),
       indexed-by (at c.add-added.new.self) a.fleeting.keys roster' (lasting_by roster') (passing_by a.roster) there refl passing (λ i yet. ap (λ qs. has_queue qs i) same ∙ yet) indexed,
       by_one c.add-added.result c.add-added.ensures.ok c.add-added.ensures.err
           (λ added. sources-added u (at c.add-added.new.self) lists _ lists' added (λ n source. let none : None ≡ Some n = source in cc none) c.self.invariant.2)
@@ -174,7 +174,7 @@ returns-in-Some-clause-names c =
     (from-left (at a.registrations) (at c.end_from.new.self) (lasting_by a.roster) (passing_by a.roster) a.fleeting.keys (has_queue (queues_by a.roster)) c.args.observer c.args.node c.self.invariant.1 ended) swept found_key c.set_options.ensures.changed c.set_options.ensures.others (has_queue qs) c.self.invariant.0.stand in
     let kept =
     subst (λ q. HoldsInvariant c.set_options.new.self q a.pending.keys) (sym same)
-    (kept-others a.registrations qs a.pending.keys c.self.invariant.0 c.set_options.new.self c.sound.ensures stand) in
+    (kept-others a.registrations qs a.pending.keys c.self.invariant.0 c.set_options.new.self c.state_law.ensures stand) in
     names-only a.registrations qs a.pending.keys c.args.self.now c.self.view_is c.set_options.new.self (queues_by roster') a.pending.keys kept (c.args.node ∷ [])
     (λ p _ names tells. (
       none-changed p (at c.end_from.new.self) (at c.set_options.new.self) c.in-Some.key c.args.options.value lists' c.set_options.ensures.changed c.set_options.ensures.others
@@ -202,7 +202,7 @@ returns-in-None-clause-names c =
     (λ same_one. subst (λ r. AllStand (at r) there r.lists) (sym same_one) c.self.invariant.0.stand) in
     let kept =
     subst (λ q. HoldsInvariant c.add-added.new.self q a.pending.keys) (sym same)
-    (kept-others a.registrations qs a.pending.keys c.self.invariant.0 c.add-added.new.self c.sound-in-None.ensures stand) in
+    (kept-others a.registrations qs a.pending.keys c.self.invariant.0 c.add-added.new.self c.state_law-in-None.ensures stand) in
     names-only a.registrations qs a.pending.keys c.args.self.now c.self.view_is c.add-added.new.self (queues_by roster') a.pending.keys kept (c.args.node ∷ [])
     (λ p nameless names tells. (
       by_one c.add-added.result c.add-added.ensures.ok c.add-added.ensures.err

@@ -45,7 +45,7 @@ invariant_of-self c =
     (there-taken o a.fleeting.keys c.swap_remove.new.self.keys taken (has_queue qs) (has_queue (slice_set qs o None)) (others-there qs o) c.self.invariant.1.known) in (
       subst (λ ps. HoldsInvariant c.end_all.new.self (queues_by new) ps) (sym pending)
           (subst (λ q. HoldsInvariant c.end_all.new.self q (left_out o a.pending.keys)) (sym queues)
-          (kept-released a.registrations qs a.pending.keys c.self.invariant.0 c.end_all.new.self o c.end_all.ensures.left c.end_all.ensures.swept c.sound.ensures)),
+          (kept-released a.registrations qs a.pending.keys c.self.invariant.0 c.end_all.new.self o c.end_all.ensures.left c.end_all.ensures.swept c.state_law.ensures)),
       indexed-lost u v a.roster new a.fleeting.keys o c.self.invariant.1 held_there c.end_all.ensures.left (ap lasting_by gone ∙ lasting-gone a.roster o) (ap passing_by gone ∙ passing-gone a.roster o)
           c.swap_remove.new.self.keys (out-taken o a.fleeting.keys c.swap_remove.new.self.keys taken) known,
       sources-ended u v (Of o) c.end_all.ensures.left c.self.invariant.2,
@@ -93,7 +93,7 @@ returns-clause-names c =
     let kept =
     subst (λ ps. HoldsInvariant c.end_all.new.self (queues_by new) ps) (sym pending)
     (subst (λ q. HoldsInvariant c.end_all.new.self q (left_out o a.pending.keys)) (sym queues)
-    (kept-released a.registrations qs a.pending.keys c.self.invariant.0 c.end_all.new.self o c.end_all.ensures.left c.end_all.ensures.swept c.sound.ensures)) in
+    (kept-released a.registrations qs a.pending.keys c.self.invariant.0 c.end_all.new.self o c.end_all.ensures.left c.end_all.ensures.swept c.state_law.ensures)) in
     names-only a.registrations qs a.pending.keys c.args.self.now c.self.view_is c.end_all.new.self (queues_by new) c.shift_remove.new.self.keys kept []
     (λ p _ names tells. (none-ended p u v (Of o) lists lists' c.end_all.ensures.left c.end_all.ensures.swept names, subst (RecordsNameNone p) (sym queues) (tells-released p qs o tells)))
 

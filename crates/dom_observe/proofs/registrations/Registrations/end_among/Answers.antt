@@ -9,7 +9,7 @@ pub loop-key-init : goal.loop-key-init
 loop-key-init c = record {
   between = λ k. inl refl;
   done = λ k h. let d : ⊥ = cc h in absurd d;
-  swept = swept-none (at c.args.self.now) c.args.self.now.lists c.sound.ensures.placed;
+  swept = swept-none (at c.args.self.now) c.args.self.now.lists c.state_law.ensures.placed;
 }
 
 pub loop-key-preserved : goal.loop-key-preserved
@@ -29,9 +29,9 @@ loop-key-preserved c =
           let some : ending_node e (u key) ≡ Some node = ap (ending_node e) (sym c.get.ensures) ∙ sym c.ending_node.ensures ∙ w.in-Some.is in
           let v = at w.end_on.new.self in
           let lists' = w.end_on.new.self.lists in
-          let more = on-between e u v lists node c.sound-in-loop-key.ensures.placed w.end_on.ensures.left in
-          let or_gone = on-or_gone e u v lists node c.sound-in-loop-key.ensures.placed w.end_on.ensures.left in
-          let now = on-done e u v lists node c.sound-in-loop-key.ensures.placed w.end_on.ensures.left key some ∙ done-now e (inv.between key) in
+          let more = on-between e u v lists node c.state_law-in-loop-key.ensures.placed w.end_on.ensures.left in
+          let or_gone = on-or_gone e u v lists node c.state_law-in-loop-key.ensures.placed w.end_on.ensures.left in
+          let now = on-done e u v lists node c.state_law-in-loop-key.ensures.placed w.end_on.ensures.left key some ∙ done-now e (inv.between key) in
           rw w.self-is (record {
             between = λ k. between-two e (inv.between k) (more k);
             done = done-next e u0 u v keys i 0 c.loop-key-test.true inv.done more now;

@@ -9,7 +9,7 @@ pub loop-key-init : goal.loop-key-init
 loop-key-init c = record {
   between = λ k. inl refl;
   done = λ k h. let d : ⊥ = cc h in absurd d;
-  swept = swept-none (at c.args.self.now) c.args.self.now.lists c.sound.ensures.placed;
+  swept = swept-none (at c.args.self.now) c.args.self.now.lists c.state_law.ensures.placed;
 }
 
 pub loop-key-preserved : goal.loop-key-preserved

@@ -15,7 +15,7 @@ pub loop-index-init : goal.loop-index-init
 loop-index-init c = record {
   between = λ k. inl refl;
   done = λ o h. let d : ⊥ = cc h in absurd d;
-  swept = swept-none (at c.args.self.now) c.args.self.now.lists c.sound.ensures.placed;
+  swept = swept-none (at c.args.self.now) c.args.self.now.lists c.state_law.ensures.placed;
 }
 
 pub loop-index-preserved : goal.loop-index-preserved

@@ -12,7 +12,7 @@ pub returns : goal.returns
 returns c =
     let kept = c.self.inside.kept in
     let at : slot_at kept.slots c.args.observer ≡ Some c.unwrap-slot.result = ap (slot_at kept.slots) (sym c.number.ensures) ∙ sym c.slot.ensures.slot ∙ c.unwrap-slot.ensures in (
-      (refl, λ w. by_slot-set c.sound.ensures.slotted c.args.observer c.unwrap-slot.result at w ∙ ap (λ v. slice_set v c.args.observer (Some w)) c.self.view_is),
+      (refl, λ w. by_slot-set c.state_law.ensures.slotted c.args.observer c.unwrap-slot.result at w ∙ ap (λ v. slice_set v c.args.observer (Some w)) c.self.view_is),
       record {
         writes_back = tt;
         value = sym (ap (λ v. observer_at v c.args.observer) c.self.view_is) ∙ item_in_slot kept.slots kept.items c.args.observer c.unwrap-slot.result at ∙ c.in_slot_mut.ensures.value;

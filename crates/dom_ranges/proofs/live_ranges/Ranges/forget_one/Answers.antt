@@ -7,5 +7,5 @@ use Rattle.dom_ranges.proofs.live_ranges.Ranges.forget_one.Goals as goal
 pub forget-requires : goal.forget-requires
 forget-requires c =
     ap (λ n. among n (keys_of c.self.inside.chains.items)) c.number.ensures
-    ∙ among-told c.sound.ensures.fit c.self.inside.chains c.self.invariant _ c.self.view_is c.args.node
+    ∙ among-told c.state_law.ensures.fit c.self.inside.chains c.self.invariant _ c.self.view_is c.args.node
     ∙ c.requires

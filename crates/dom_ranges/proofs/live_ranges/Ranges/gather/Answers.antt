@@ -9,16 +9,16 @@ loop-step-init g c s = gathered-top c.args.tree.now s c.args.top c.args.self.now
 
 pub gather_at-requires-clause-covered : goal.gather_at-requires-clause-covered
 gather_at-requires-clause-covered g c =
-    ap (λ (v : RangeTable). covers v.covered c.args.to.node) (c.loop-step.invariant c.sound.ensures).moved ∙ c.requires.covered
+    ap (λ (v : RangeTable). covers v.covered c.args.to.node) (c.loop-step.invariant c.state_law.ensures).moved ∙ c.requires.covered
 
 pub gather_ends-requires : goal.gather_ends-requires
-gather_ends-requires g c = record { covered = ap (λ (v : RangeTable). covers v.covered c.args.to.node) (c.loop-step.invariant c.sound.ensures).moved ∙ c.requires.covered }
+gather_ends-requires g c = record { covered = ap (λ (v : RangeTable). covers v.covered c.args.to.node) (c.loop-step.invariant c.state_law.ensures).moved ∙ c.requires.covered }
 
 pub next_inside-requires-clause-held : goal.next_inside-requires-clause-held
-next_inside-requires-clause-held g c = (c.loop-step.invariant c.sound.ensures).at.there
+next_inside-requires-clause-held g c = (c.loop-step.invariant c.state_law.ensures).at.there
 
 pub next_inside-requires-clause-under : goal.next_inside-requires-clause-under
-next_inside-requires-clause-under g c = (c.loop-step.invariant c.sound.ensures).at.under
+next_inside-requires-clause-under g c = (c.loop-step.invariant c.state_law.ensures).at.under
 
 pub loop-step-preserved : goal.loop-step-preserved
 loop-step-preserved g c s =
@@ -26,8 +26,8 @@ loop-step-preserved g c s =
 
 pub returns-in-None : goal.returns-in-None
 returns-in-None g c =
-    gathered-end c.args.tree.now c.sound.ensures c.args.top c.args.self.now c.loop-step.self c.gather_at.new.self c.args.to c.loop-step.here (c.loop-step.invariant c.sound.ensures) (sym c.next_inside.ensures ∙ c.in-None.is) c.gather_at.ensures
+    gathered-end c.args.tree.now c.state_law.ensures c.args.top c.args.self.now c.loop-step.self c.gather_at.new.self c.args.to c.loop-step.here (c.loop-step.invariant c.state_law.ensures) (sym c.next_inside.ensures ∙ c.in-None.is) c.gather_at.ensures
 
 pub returns : goal.returns
 returns g c =
-    gathered-rest c.args.tree.now c.sound.ensures c.args.top c.args.self.now c.loop-step.self c.gather_ends.new.self c.args.to c.loop-step.here (c.loop-step.invariant c.sound.ensures) c.gather_ends.ensures
+    gathered-rest c.args.tree.now c.state_law.ensures c.args.top c.args.self.now c.loop-step.self c.gather_ends.new.self c.args.to c.loop-step.here (c.loop-step.invariant c.state_law.ensures) c.gather_ends.ensures

@@ -9,5 +9,5 @@ pub returns : goal.returns
 returns c =
     c.is_some.ensures ∙ ap is_some c.slot.ensures
     ∙ ap (λ n. is_some (slot_at c.self.inside.slots.slots n)) c.number.ensures
-    ∙ sym (is_some-by_slot (are-slotted c.sound.ensures.fit c.self.inside.chains c.self.invariant) c.args.r)
+    ∙ sym (is_some-by_slot (are-slotted c.state_law.ensures.fit c.self.inside.chains c.self.invariant) c.args.r)
     ∙ ap (λ (v : RangeTable). is_some (range_in v c.args.r)) c.self.view_is

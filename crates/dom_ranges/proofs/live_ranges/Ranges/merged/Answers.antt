@@ -6,12 +6,12 @@ use Rattle.dom_ranges.proofs.live_ranges.Ranges.merged.Goals as goal
 
 pub shift_both-requires-clause-within : goal.shift_both-requires-clause-within
 shift_both-requires-clause-within c =
-    can-move c.sound.ensures.fit c.self.inside.chains c.self.invariant _ c.self.view_is c.sound-2.ensures.covered (after_merge c.args.from c.args.into c.args.base c.args.parent c.args.index) c.requires.fit
+    can-move c.state_law.ensures.fit c.self.inside.chains c.self.invariant _ c.self.view_is c.state_law-2.ensures.covered (after_merge c.args.from c.args.into c.args.base c.args.parent c.args.index) c.requires.fit
     (λ p. merge-node c.args.from c.args.into c.args.base c.args.parent c.args.index _ p (ap (λ (v : RangeTable). covers v.covered c.args.into) c.self.view_is ∙ c.requires.into_covered))
 
 pub shift_both-requires-else-eq-clause-within : goal.shift_both-requires-else-eq-clause-within
 shift_both-requires-else-eq-clause-within c =
-    can-move c.sound.ensures.fit c.self.inside.chains c.self.invariant _ c.self.view_is c.sound-2.ensures.covered (after_merge c.args.from c.args.into c.args.base c.args.parent c.args.index) c.requires.fit
+    can-move c.state_law.ensures.fit c.self.inside.chains c.self.invariant _ c.self.view_is c.state_law-2.ensures.covered (after_merge c.args.from c.args.into c.args.base c.args.parent c.args.index) c.requires.fit
     (λ p. merge-node c.args.from c.args.into c.args.base c.args.parent c.args.index _ p (ap (λ (v : RangeTable). covers v.covered c.args.into) c.self.view_is ∙ c.requires.into_covered))
 
 pub returns-then-eq : goal.returns-then-eq

@@ -14,4 +14,4 @@ returns-in-Some g c = asked-found _ _ (live_nodes c.args.self.now) (c.in-Some.en
 
 pub returns-in-None : goal.returns-in-None
 returns-in-None g c =
-    c.refer.ensures ∙ any-told c.sound.ensures.fit c.self.inside.chains c.self.invariant _ c.self.view_is (λ m. among m (inclusive_descendants c.args.tree.now.forest c.args.top))
+    c.refer.ensures ∙ any-told c.state_law.ensures.fit c.self.inside.chains c.self.invariant _ c.self.view_is (λ m. among m (inclusive_descendants c.args.tree.now.forest c.args.top))

@@ -12,26 +12,26 @@ release-slot-requires c =
 
 pub overflow_mul-first : goal.overflow_mul-first
 overflow_mul-first c =
-    omega (arith, end-within c.sound.ensures.fit c.self.inside.chains c.self.invariant _ c.self.view_is c.number.result c.release-slot.result c.release-slot.ensures.slot, c.sound-2.ensures.few)
+    omega (arith, end-within c.state_law.ensures.fit c.self.inside.chains c.self.invariant _ c.self.view_is c.number.result c.release-slot.result c.release-slot.ensures.slot, c.state_law-2.ensures.few)
 
 pub overflow_add-first : goal.overflow_add-first
 overflow_add-first c =
-    omega (arith, end-within c.sound.ensures.fit c.self.inside.chains c.self.invariant _ c.self.view_is c.number.result c.release-slot.result c.release-slot.ensures.slot, c.sound-2.ensures.few)
+    omega (arith, end-within c.state_law.ensures.fit c.self.inside.chains c.self.invariant _ c.self.view_is c.number.result c.release-slot.result c.release-slot.ensures.slot, c.state_law-2.ensures.few)
 
 pub swap_remove-requires : goal.swap_remove-requires
-swap_remove-requires c = end-within c.sound.ensures.fit c.self.inside.chains c.self.invariant _ c.self.view_is c.number.result c.release-slot.result c.release-slot.ensures.slot
+swap_remove-requires c = end-within c.state_law.ensures.fit c.self.inside.chains c.self.invariant _ c.self.view_is c.number.result c.release-slot.result c.release-slot.ensures.slot
 
 pub swap_remove-requires-2 : goal.swap_remove-requires-2
 swap_remove-requires-2 c =
-    start-within c.sound.ensures.fit c.self.inside.chains c.self.invariant _ c.self.view_is c.number.result c.release-slot.result c.release-slot.ensures.slot c.swap_remove.new.self c.swap_remove.ensures.items
+    start-within c.state_law.ensures.fit c.self.inside.chains c.self.invariant _ c.self.view_is c.number.result c.release-slot.result c.release-slot.ensures.slot c.swap_remove.new.self c.swap_remove.ensures.items
 
 pub invariant_of-self : goal.invariant_of-self
 invariant_of-self c =
-    long-left c.sound.ensures.fit c.self.inside.chains c.self.invariant _ c.self.view_is c.number.result c.release-slot.result c.release-slot.ensures.slot c.swap_remove.new.self c.swap_remove.ensures.items c.swap_remove-2.new.self c.swap_remove-2.ensures.items
+    long-left c.state_law.ensures.fit c.self.inside.chains c.self.invariant _ c.self.view_is c.number.result c.release-slot.result c.release-slot.ensures.slot c.swap_remove.new.self c.swap_remove.ensures.items c.swap_remove-2.new.self c.swap_remove-2.ensures.items
     _ c.release-slot.ensures.numbers
 
 pub returns : goal.returns
 returns c =
-    table-left c.sound.ensures.fit c.self.inside.chains c.self.invariant _ c.self.view_is c.number.result c.release-slot.result c.release-slot.ensures.slot c.swap_remove.new.self c.swap_remove.ensures.items c.swap_remove-2.new.self c.swap_remove-2.ensures.items
+    table-left c.state_law.ensures.fit c.self.inside.chains c.self.invariant _ c.self.view_is c.number.result c.release-slot.result c.release-slot.ensures.slot c.swap_remove.new.self c.swap_remove.ensures.items c.swap_remove-2.new.self c.swap_remove-2.ensures.items
     _ c.release-slot.ensures.slots (c.swap_remove-2.ensures.covered ∙ c.swap_remove.ensures.covered)
     ∙ ap (λ n. without_range n c.args.self.now) c.number.ensures

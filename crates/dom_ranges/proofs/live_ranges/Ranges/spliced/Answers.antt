@@ -9,7 +9,7 @@ use Rattle.dom_ranges.proofs.live_ranges.Ranges.spliced.Goals as goal
 pub shift-requires : goal.shift-requires
 shift-requires c =
     let g = after_splice c.args.node c.args.at c.args.count c.args.added in
-    can-move c.sound.ensures.fit c.self.inside.chains c.self.invariant _ c.self.view_is c.sound-2.ensures.covered g c.requires (λ p held. rw (splice-node c.args.node c.args.at c.args.count c.args.added p) held) c.args.node
+    can-move c.state_law.ensures.fit c.self.inside.chains c.self.invariant _ c.self.view_is c.state_law-2.ensures.covered g c.requires (λ p held. rw (splice-node c.args.node c.args.at c.args.count c.args.added p) held) c.args.node
 
 pub returns : goal.returns
 returns c =

@@ -7,4 +7,4 @@ use Rattle.dom_ranges.proofs.live_ranges.Ranges.stands_in.Goals as goal
 pub returns : goal.returns
 returns c =
     c.has.ensures ∙ ap (λ n. among n (keys_of c.self.inside.chains.items)) c.number.ensures
-    ∙ among-told c.sound.ensures.fit c.self.inside.chains c.self.invariant _ c.self.view_is c.args.node
+    ∙ among-told c.state_law.ensures.fit c.self.inside.chains c.self.invariant _ c.self.view_is c.args.node

@@ -7,12 +7,12 @@ use Rattle.dom_ranges.proofs.static_ranges.Statics.make.Goals as goal
 pub add-requires-clause-few : goal.add-requires-clause-few
 add-requires-clause-few c =
     let node = c.start.inside.node in
-    omega (arith, ap (λ cs. end_count_at cs node) c.reserve-2.ensures.counts, counts-few c.sound.ensures.slotted c.self.invariant c.sound.ensures.few node)
+    omega (arith, ap (λ cs. end_count_at cs node) c.reserve-2.ensures.counts, counts-few c.state_law.ensures.slotted c.self.invariant c.state_law.ensures.few node)
 
 pub add-requires-2-clause-few : goal.add-requires-2-clause-few
 add-requires-2-clause-few c =
     let node = c.end.inside.node in
-    omega (arith, c.add.ensures.added node, one_at-few node c.start.inside.node, ap (λ cs. end_count_at cs node) c.reserve-2.ensures.counts, counts-few c.sound.ensures.slotted c.self.invariant c.sound.ensures.few node)
+    omega (arith, c.add.ensures.added node, one_at-few node c.start.inside.node, ap (λ cs. end_count_at cs node) c.reserve-2.ensures.counts, counts-few c.state_law.ensures.slotted c.self.invariant c.state_law.ensures.few node)
 
 pub invariant_of-self-2 : goal.invariant_of-self-2
 invariant_of-self-2 c =

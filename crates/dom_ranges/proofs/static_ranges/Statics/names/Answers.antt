@@ -5,5 +5,5 @@ use Rattle.dom_ranges.proofs.static_ranges.Statics.names.Goals as goal
 
 pub returns : goal.returns
 returns c =
-    c.stands_in.ensures ∙ named-counted c.sound.ensures.slotted c.self.invariant c.args.node
+    c.stands_in.ensures ∙ named-counted c.state_law.ensures.slotted c.self.invariant c.args.node
     ∙ ap (λ rs. among c.args.node (flat_map (nodes_unless_released nodes_of_range) rs)) c.self.view_is

@@ -16,5 +16,5 @@ returns-in-None g c =
     let inside = λ (m : ℕ). among m (inclusive_descendants c.args.tree.now.forest c.args.top) in
     c.refer.ensures
     ∙ ap (λ (rs : List Range). list_any inside (flat_map nodes_of_range rs)) c.items.ensures
-    ∙ any-by_slot inside nodes_of_range c.sound.ensures.slotted
+    ∙ any-by_slot inside nodes_of_range c.state_law.ensures.slotted
     ∙ ap (λ (rs : List (Option Range)). list_any inside (flat_map (nodes_unless_released nodes_of_range) rs)) c.self.view_is

@@ -4,4 +4,4 @@ use Rattle.dom_slots.proofs.SlotEntryLemmas.{is_some-by_slot}
 use Rattle.dom_slots.proofs.numbered_items.NumberedItems.holds.Goals as goal
 
 pub returns : goal.returns
-returns g c = c.is_some.ensures ∙ ap is_some c.slot.ensures.slot ∙ sym (is_some-by_slot c.sound.ensures.slotted c.args.number)
+returns g c = c.is_some.ensures ∙ ap is_some c.slot.ensures.slot ∙ sym (is_some-by_slot c.state_law.ensures.slotted c.args.number)

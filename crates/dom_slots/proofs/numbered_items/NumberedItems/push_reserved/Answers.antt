@@ -11,5 +11,5 @@ invariant_of-self g c =
 
 pub returns-clause-pushed : goal.returns-clause-pushed
 returns-clause-pushed g c =
-    let s : IsSlotted c.self.inside.slots.slots c.self.inside.items.items = record { numbers = c.self.inside.slots.numbers; fit = c.sound.ensures.fit; long = c.self.invariant } in
+    let s : IsSlotted c.self.inside.slots.slots c.self.inside.items.items = record { numbers = c.self.inside.slots.numbers; fit = c.state_law.ensures.fit; long = c.self.invariant } in
     rw (c.push_reserved.ensures.items, c.push_reserved-number.ensures.slots, ← c.self.invariant, ← c.self.view_is) (by_slot-pushed s c.args.item)

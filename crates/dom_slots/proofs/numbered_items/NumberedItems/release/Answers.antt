@@ -7,12 +7,12 @@ use Rattle.dom_slots.proofs.numbered_items.NumberedItems.release.Goals as goal
 
 pub swap_remove-item-requires : goal.swap_remove-item-requires
 swap_remove-item-requires g c =
-    let s : IsSlotted c.self.inside.slots.slots c.self.inside.items.items = record { numbers = c.self.inside.slots.numbers; fit = c.sound.ensures.fit; long = c.self.invariant } in
+    let s : IsSlotted c.self.inside.slots.slots c.self.inside.items.items = record { numbers = c.self.inside.slots.numbers; fit = c.state_law.ensures.fit; long = c.self.invariant } in
     omega (arith, item_within s c.args.number c.release-slot.result c.release-slot.ensures.slot, c.self.inside.items.ok)
 
 pub invariant_of-self : goal.invariant_of-self
 invariant_of-self g c =
-    let s : IsSlotted c.self.inside.slots.slots c.self.inside.items.items = record { numbers = c.self.inside.slots.numbers; fit = c.sound.ensures.fit; long = c.self.invariant } in
+    let s : IsSlotted c.self.inside.slots.slots c.self.inside.items.items = record { numbers = c.self.inside.slots.numbers; fit = c.state_law.ensures.fit; long = c.self.invariant } in
     let within = item_within s c.args.number c.release-slot.result c.release-slot.ensures.slot in
     let last = length c.self.inside.items.items - 1 in
     ap length c.swap_remove-item.ensures.items ∙ length-swap_remove c.self.inside.items.items last (omega (arith, within)) c.release-slot.result c.swap_remove-item.result
@@ -20,10 +20,10 @@ invariant_of-self g c =
 
 pub returns-clause-item : goal.returns-clause-item
 returns-clause-item g c =
-    let s : IsSlotted c.self.inside.slots.slots c.self.inside.items.items = record { numbers = c.self.inside.slots.numbers; fit = c.sound.ensures.fit; long = c.self.invariant } in
+    let s : IsSlotted c.self.inside.slots.slots c.self.inside.items.items = record { numbers = c.self.inside.slots.numbers; fit = c.state_law.ensures.fit; long = c.self.invariant } in
     rw (← c.self.view_is) (slice_get_read c.self.inside.items.items _ c.release-slot.result c.swap_remove-item.result refl (item_within s c.args.number c.release-slot.result c.release-slot.ensures.slot) c.swap_remove-item.ensures.value)
 
 pub returns-clause-released : goal.returns-clause-released
 returns-clause-released g c =
-    let s : IsSlotted c.self.inside.slots.slots c.self.inside.items.items = record { numbers = c.self.inside.slots.numbers; fit = c.sound.ensures.fit; long = c.self.invariant } in
+    let s : IsSlotted c.self.inside.slots.slots c.self.inside.items.items = record { numbers = c.self.inside.slots.numbers; fit = c.state_law.ensures.fit; long = c.self.invariant } in
     rw (c.swap_remove-item.ensures.items, c.release-slot.ensures.slots, ← c.self.view_is) (by_slot-released s c.args.number c.release-slot.result c.release-slot.ensures.slot c.swap_remove-item.result)

@@ -6,12 +6,12 @@ use Rattle.dom_traverse.proofs.iterator.NodeIterator.found_next.Goals as goal
 
 pub accepts_number-requires : goal.accepts_number-requires
 accepts_number-requires g c =
-    subst (λ (i : Iterator). HasNode c.args.tree.now.forest i.reference) (sym c.self.view_is) (reference-there c.args.tree.now.forest c.sound.ensures.once c.args.self.now c.requires)
+    subst (λ (i : Iterator). HasNode c.args.tree.now.forest i.reference) (sym c.self.view_is) (reference-there c.args.tree.now.forest c.state_law.ensures.once c.args.self.now c.requires)
 
 pub next_accepted-requires-clause-held : goal.next_accepted-requires-clause-held
 next_accepted-requires-clause-held g c =
-    subst (λ (i : Iterator). HasNode c.args.tree.now.forest i.reference) (sym c.self.view_is) (reference-there c.args.tree.now.forest c.sound.ensures.once c.args.self.now c.requires)
+    subst (λ (i : Iterator). HasNode c.args.tree.now.forest i.reference) (sym c.self.view_is) (reference-there c.args.tree.now.forest c.state_law.ensures.once c.args.self.now c.requires)
 
 pub next_accepted-requires-clause-under : goal.next_accepted-requires-clause-under
 next_accepted-requires-clause-under g c =
-    subst (λ (i : Iterator). among i.root (ancestors i.reference c.args.tree.now.forest) ≡ true) (sym c.self.view_is) (reference-under c.args.tree.now.forest c.sound.ensures.once c.args.self.now c.requires)
+    subst (λ (i : Iterator). among i.root (ancestors i.reference c.args.tree.now.forest) ≡ true) (sym c.self.view_is) (reference-under c.args.tree.now.forest c.state_law.ensures.once c.args.self.now c.requires)

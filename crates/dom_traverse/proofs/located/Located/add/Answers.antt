@@ -6,14 +6,14 @@ use Rattle.dom_traverse.proofs.located.Located.add.Goals as goal
 
 pub add-requires : goal.add-requires
 add-requires g c =
-    omega (arith, c.requires.room, items_few c.sound.ensures.slotted, length-by_slot c.self.inside.items.slots c.self.inside.items.items, ap length c.self.view_is, c.self.invariant.stand.long)
+    omega (arith, c.requires.room, items_few c.state_law.ensures.slotted, length-by_slot c.self.inside.items.slots c.self.inside.items.items, ap length c.self.view_is, c.self.invariant.stand.long)
 
 pub name-requires-clause-few : goal.name-requires-clause-few
 name-requires-clause-few g c =
     omega (
       arith,
       c.requires.room,
-      items_few c.sound.ensures.slotted,
+      items_few c.state_law.ensures.slotted,
       length-by_slot c.self.inside.items.slots c.self.inside.items.items,
       ap length c.self.view_is,
       found-few g.T.Standing.root_of g.T.Standing.node_of c.self.inside.items.items c.self.inside.roots c.self.inside.whereabouts c.self.invariant c.reserve-2.new.self c.root-root.result c.reserve-2.ensures.entries,

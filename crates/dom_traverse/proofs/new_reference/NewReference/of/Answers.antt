@@ -7,14 +7,14 @@ use Rattle.dom_traverse.proofs.new_reference.NewReference.of.Goals as goal
 
 pub past_inside-following-requires-clause-under : goal.past_inside-following-requires-clause-under
 past_inside-following-requires-clause-under g c =
-    lost-under c.args.tree.now.forest c.sound.ensures.once c.args.node c.args.root (sym c.loses.ensures ∙ c.if-not-loses.false)
+    lost-under c.args.tree.now.forest c.state_law.ensures.once c.args.node c.args.root (sym c.loses.ensures ∙ c.if-not-loses.false)
 
 pub previous_inside-preceding-requires : goal.previous_inside-preceding-requires
 previous_inside-preceding-requires g c =
     let f = c.args.tree.now.forest in
     ap (λ (t : Grove g.row.X.Denot). among c.args.root (ancestors c.at-here.result.node t.forest)) c.at-here.ensures.tree
     ∙ ap (λ n. among c.args.root (ancestors n f)) c.at-here.ensures.node
-    ∙ lost-under f c.sound.ensures.once c.args.node c.args.root (sym c.loses.ensures ∙ c.if-not-loses.false)
+    ∙ lost-under f c.state_law.ensures.once c.args.node c.args.root (sym c.loses.ensures ∙ c.if-not-loses.false)
 
 pub returns-then-not-loses-clause-exit : goal.returns-then-not-loses-clause-exit
 returns-then-not-loses-clause-exit g c = record {

@@ -20,18 +20,18 @@ loop-last-smaller g c =
     let k = c.self.invariant.seated.tree in
     let v = tree-is c.self.invariant c.self.view_is in
     let h = stands k v c.loop-last.place c.loop-last.invariant.held in
-    let d = down_last k v c.sound-2.ensures c.loop-last.place c.loop-last.invariant.held c.in-Some.last (led c.in-Some.is c.last.ensures) in
-    (last-down c.sound.ensures.forest (called c.self.inside.links.now c.loop-last.place) (called c.self.inside.links.now c.in-Some.last) h d.1).1.0
+    let d = down_last k v c.state_law-2.ensures c.loop-last.place c.loop-last.invariant.held c.in-Some.last (led c.in-Some.is c.last.ensures) in
+    (last-down c.state_law.ensures.forest (called c.self.inside.links.now c.loop-last.place) (called c.self.inside.links.now c.in-Some.last) h d.1).1.0
 
 pub loop-last-preserved : goal.loop-last-preserved
 loop-last-preserved g c =
     let k = c.self.invariant.seated.tree in
     let v = tree-is c.self.invariant c.self.view_is in
     let h = stands k v c.loop-last.place c.loop-last.invariant.held in
-    let d = down_last k v c.sound-2.ensures c.loop-last.place c.loop-last.invariant.held c.in-Some.last (led c.in-Some.is c.last.ensures) in
+    let d = down_last k v c.state_law-2.ensures c.loop-last.place c.loop-last.invariant.held c.in-Some.last (led c.in-Some.is c.last.ensures) in
     record {
       held = d.0;
-      same = (last-down c.sound.ensures.forest (called c.self.inside.links.now c.loop-last.place) (called c.self.inside.links.now c.in-Some.last) h d.1).0 ∙ c.loop-last.invariant.same;
+      same = (last-down c.state_law.ensures.forest (called c.self.inside.links.now c.loop-last.place) (called c.self.inside.links.now c.in-Some.last) h d.1).0 ∙ c.loop-last.invariant.same;
     }
 
 pub returns-clause-node : goal.returns-clause-node
@@ -39,5 +39,5 @@ returns-clause-node g c =
     let k = c.self.invariant.seated.tree in
     let v = tree-is c.self.invariant c.self.view_is in
     let h = stands k v c.loop-last.place c.loop-last.invariant.held in
-    let z = leaf k v c.sound-2.ensures c.loop-last.place c.loop-last.invariant.held (led c.in_default.is c.last.ensures) in
-    last-leaf c.sound.ensures.forest (called c.self.inside.links.now c.loop-last.place) h z ∙ c.loop-last.invariant.same
+    let z = leaf k v c.state_law-2.ensures c.loop-last.place c.loop-last.invariant.held (led c.in_default.is c.last.ensures) in
+    last-leaf c.state_law.ensures.forest (called c.self.inside.links.now c.loop-last.place) h z ∙ c.loop-last.invariant.same

@@ -12,7 +12,7 @@ pub number_of-requires : goal.number_of-requires
 number_of-requires g c = c.self.invariant.placed c.in_ok-place.place (sym c.get.ensures ∙ c.in_ok-place.was)
 
 pub invariant_of-self : goal.invariant_of-self
-invariant_of-self g c = next-placed c.sound.ensures c.in_ok-place.place c.next-self-inside.result c.next-self-inside.ensures.placed c.next-self-inside.ensures.slot
+invariant_of-self g c = next-placed c.state_law.ensures c.in_ok-place.place c.next-self-inside.result c.next-self-inside.ensures.placed c.next-self-inside.ensures.slot
 
 pub returns : goal.returns
 returns g c =
@@ -21,6 +21,6 @@ returns g c =
     let steps =
     sym c.self.view_is
     ∙ ap (numbers_from s) is
-    ∙ numbers-next c.sound.ensures (slot_of s c.in_ok-place.place) (c.self.invariant.child (slot_of s c.in_ok-place.place) (ap (slots_of s) is)) (slots_of s c.next-self-inside.result) c.number_of.result c.next-self-inside.ensures.slot c.number_of.ensures in
+    ∙ numbers-next c.state_law.ensures (slot_of s c.in_ok-place.place) (c.self.invariant.child (slot_of s c.in_ok-place.place) (ap (slots_of s) is)) (slots_of s c.next-self-inside.result) c.number_of.result c.next-self-inside.ensures.slot c.number_of.ensures in
     let shorter = ap length steps in
     record { steps = steps; goes = search rules }

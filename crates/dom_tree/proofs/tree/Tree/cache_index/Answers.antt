@@ -19,11 +19,11 @@ number_around-requires g c =
     record {
       parent_placed = up.placed c.in-Some.above refl;
       child_placed = c.place_of-place.ensures.placed c.place_of-place.result refl;
-      sound = c.sound.ensures;
+      sound = c.state_law.ensures;
       counted = c.self.invariant.tree.stored.counted;
       blocked = c.self.invariant.blocked;
       child = slot-led up;
-      index = c.requires.index ∙ index-slots c.self.invariant.tree c.self.view_is c.sound.ensures c.args.id s (slot-led c.place_of-place.ensures) ∙ ap (λ o. place_in s (list_under (entry_at c.self.inside.links.arena) o)) (slot-led up);
+      index = c.requires.index ∙ index-slots c.self.invariant.tree c.self.view_is c.state_law.ensures c.args.id s (slot-led c.place_of-place.ensures) ∙ ap (λ o. place_in s (list_under (entry_at c.self.inside.links.arena) o)) (slot-led up);
     }
 
 pub invariant_of-self : goal.invariant_of-self

@@ -16,26 +16,26 @@ pub returns-in_err-child : goal.returns-in_err-child
 returns-in_err-child g c =
     let l = children_of c.args.self.now.forest c.args.id in
     let b = begins c.self.invariant.tree c.self.view_is c.args.id c.place_of.result c.place_of.ensures in
-    let z = childless c.self.invariant.tree c.self.view_is c.sound-2.ensures c.place_of.result b.0 (led c.in_err-child.was c.first.ensures) in
+    let z = childless c.self.invariant.tree c.self.view_is c.state_law-2.ensures c.place_of.result b.0 (led c.in_err-child.was c.first.ensures) in
     let gone : slice_get l 0 ≡ None = sym (get-head l) ∙ ap (λ n. head_of (children_of c.args.self.now.forest n)) (sym b.1) ∙ z in
     c.from_residual.ensures ∙ sym (get-past l 0 c.args.steps gone (omega arith))
 
 pub loop-passed-init : goal.loop-passed-init
 loop-passed-init g c =
     let b = begins c.self.invariant.tree c.self.view_is c.args.id c.place_of.result c.place_of.ensures in
-    let d = down c.self.invariant.tree c.self.view_is c.sound-2.ensures c.place_of.result b.0 c.in_ok-child.child (led c.in_ok-child.was c.first.ensures) in
+    let d = down c.self.invariant.tree c.self.view_is c.state_law-2.ensures c.place_of.result b.0 c.in_ok-child.child (led c.in_ok-child.was c.first.ensures) in
     record { held = d.0; at = sym (get-head (children_of c.args.self.now.forest c.args.id)) ∙ ap (λ n. head_of (children_of c.args.self.now.forest n)) (sym b.1) ∙ d.1 }
 
 pub returns-in_err-child-2 : goal.returns-in_err-child-2
 returns-in_err-child-2 g c =
     let l = children_of c.args.self.now.forest c.args.id in
-    let z = hindmost c.self.invariant.tree c.self.view_is c.sound-2.ensures c.loop-passed.child c.loop-passed.invariant.held (led c.in_err-child-2.was c.next.ensures) in
-    let step = child-next c.sound.ensures c.args.id (called c.self.inside.links c.loop-passed.child) c.loop-passed._passed c.requires c.loop-passed.invariant.at in
+    let z = hindmost c.self.invariant.tree c.self.view_is c.state_law-2.ensures c.loop-passed.child c.loop-passed.invariant.held (led c.in_err-child-2.was c.next.ensures) in
+    let step = child-next c.state_law.ensures c.args.id (called c.self.inside.links c.loop-passed.child) c.loop-passed._passed c.requires c.loop-passed.invariant.at in
     let gone : slice_get l (suc c.loop-passed._passed) ≡ None = sym step ∙ z in
     c.from_residual-in_err-child-2.ensures ∙ sym (get-past l (suc c.loop-passed._passed) c.args.steps gone (omega (arith, c.loop-passed-test.true)))
 
 pub loop-passed-preserved : goal.loop-passed-preserved
 loop-passed-preserved g c =
-    let o = on c.self.invariant.tree c.self.view_is c.sound-2.ensures c.loop-passed.child c.loop-passed.invariant.held c.in_ok-child-2.child (led c.in_ok-child-2.was c.next.ensures) in
-    let step = child-next c.sound.ensures c.args.id (called c.self.inside.links c.loop-passed.child) c.loop-passed._passed c.requires c.loop-passed.invariant.at in
+    let o = on c.self.invariant.tree c.self.view_is c.state_law-2.ensures c.loop-passed.child c.loop-passed.invariant.held c.in_ok-child-2.child (led c.in_ok-child-2.was c.next.ensures) in
+    let step = child-next c.state_law.ensures c.args.id (called c.self.inside.links c.loop-passed.child) c.loop-passed._passed c.requires c.loop-passed.invariant.at in
     record { held = o.0; at = ap (slice_get (children_of c.args.self.now.forest c.args.id)) (add-one c.loop-passed._passed) ∙ sym step ∙ o.1 }

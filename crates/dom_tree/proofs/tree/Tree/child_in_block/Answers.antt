@@ -6,7 +6,7 @@ pub index_within-requires : goal.index_within-requires
 index_within-requires g c = child-held_under c.args.self.now.forest c.args.id c.in_ok-near.near c.in_ok-near.ensures
 
 pub child_after-requires-clause-child : goal.child_after-requires-clause-child
-child_after-requires-clause-child g c = child-indexed c.sound.ensures c.args.id c.in_ok-near.near c.in_ok-from.from c.in_ok-near.ensures c.in_ok-from.ensures.counted
+child_after-requires-clause-child g c = child-indexed c.state_law.ensures c.args.id c.in_ok-near.near c.in_ok-from.from c.in_ok-near.ensures c.in_ok-from.ensures.counted
 
 pub child_before-requires-clause-child : goal.child_before-requires-clause-child
-child_before-requires-clause-child g c = child-indexed c.sound.ensures c.args.id c.in_ok-near.near c.in_ok-from.from c.in_ok-near.ensures c.in_ok-from.ensures.counted
+child_before-requires-clause-child g c = child-indexed c.state_law.ensures c.args.id c.in_ok-near.near c.in_ok-from.from c.in_ok-near.ensures c.in_ok-from.ensures.counted

@@ -10,9 +10,9 @@ link_to-from-requires g c = places-held c.self.invariant c.self.view_is c.args.c
 pub invariant_of-result : goal.invariant_of-result
 invariant_of-result g c = record {
   placed = c.link_to-from.ensures.placed;
-  child = given-child c.self.invariant.tree c.self.view_is c.sound.ensures c.args.child (slots_of c.self.inside.links c.link_to-from.result) c.args.parent (sym c.link_to-from.ensures.slot) c.requires;
+  child = given-child c.self.invariant.tree c.self.view_is c.state_law.ensures c.args.child (slots_of c.self.inside.links c.link_to-from.result) c.args.parent (sym c.link_to-from.ensures.slot) c.requires;
 }
 
 pub returns : goal.returns
 returns g c =
-    given-numbers c.self.invariant.tree c.self.view_is c.sound.ensures c.args.child (slots_of c.self.inside.links c.link_to-from.result) c.args.parent (sym c.link_to-from.ensures.slot) c.requires
+    given-numbers c.self.invariant.tree c.self.view_is c.state_law.ensures c.args.child (slots_of c.self.inside.links c.link_to-from.result) c.args.parent (sym c.link_to-from.ensures.slot) c.requires

@@ -15,7 +15,7 @@ returns-in-Element g c =
     let s = slot_of c.self.inside.links c.place_of-place.result in
     let e : tally_in c.self.inside.tallies s ≡ Some c.in_ok-tally.tally = ap (tally_in c.self.inside.tallies) (sym c.slot.ensures) ∙ sym c.get.ensures ∙ c.in_ok-tally.was in
     (c.self.invariant.tallied s c.in_ok-tally.tally e).elements
-    ∙ tally-read c.self.invariant.tree c.self.view_is c.sound.ensures c.args.parent s (slot-led c.place_of-place.ensures) Element
+    ∙ tally-read c.self.invariant.tree c.self.view_is c.state_law.ensures c.args.parent s (slot-led c.place_of-place.ensures) Element
     ∙ ap (λ kind. count_kind kind c.args.self.now.forest (children_of c.args.self.now.forest c.args.parent)) (sym c.in-Element.is)
 
 pub returns-in-DocumentType : goal.returns-in-DocumentType
@@ -23,5 +23,5 @@ returns-in-DocumentType g c =
     let s = slot_of c.self.inside.links c.place_of-place.result in
     let e : tally_in c.self.inside.tallies s ≡ Some c.in_ok-tally.tally = ap (tally_in c.self.inside.tallies) (sym c.slot.ensures) ∙ sym c.get.ensures ∙ c.in_ok-tally.was in
     (c.self.invariant.tallied s c.in_ok-tally.tally e).doctypes
-    ∙ tally-read c.self.invariant.tree c.self.view_is c.sound.ensures c.args.parent s (slot-led c.place_of-place.ensures) DocumentType
+    ∙ tally-read c.self.invariant.tree c.self.view_is c.state_law.ensures c.args.parent s (slot-led c.place_of-place.ensures) DocumentType
     ∙ ap (λ kind. count_kind kind c.args.self.now.forest (children_of c.args.self.now.forest c.args.parent)) (sym c.in-DocumentType.is)

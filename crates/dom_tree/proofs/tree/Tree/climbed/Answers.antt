@@ -17,7 +17,7 @@ loop-passed-init g c =
     record {
       held = b.0;
       child_held = λ x e. absurd (let z : None ≡ Some x = sym c.none-child.ensures ∙ e in cc z);
-      way = subst (λ n. IsOnWay f c.args.id n (option_map (called c.self.inside.links) c.none-child.result)) (sym b.1) (subst (λ o. IsOnWay f c.args.id c.args.id (option_map (called c.self.inside.links) o)) (sym c.none-child.ensures) (way-start c.sound.ensures c.args.id c.requires.held));
+      way = subst (λ n. IsOnWay f c.args.id n (option_map (called c.self.inside.links) c.none-child.result)) (sym b.1) (subst (λ o. IsOnWay f c.args.id c.args.id (option_map (called c.self.inside.links) o)) (sym c.none-child.ensures) (way-start c.state_law.ensures c.args.id c.requires.held));
       counted = omega (arith, ap (λ n. length (ancestors n f)) b.1);
       start = λ _. c.none-child.ensures;
     }
@@ -29,8 +29,8 @@ unwrap-above-requires g c =
     let n = called c.self.inside.links c.loop-passed.here in
     let h = stands c.self.invariant.tree c.self.view_is c.loop-passed.here i.held in
     let deep : 1 < length (ancestors n f) = omega (arith, i.counted, c.requires.within, c.loop-passed-test.true) in
-    let p = parent-above f c.sound.ensures.once n (occurs-HasNode f n h) deep in
-    parented c.self.invariant.tree c.self.view_is c.sound-2.ensures c.loop-passed.here i.held c.parent.result c.parent.ensures p
+    let p = parent-above f c.state_law.ensures.once n (occurs-HasNode f n h) deep in
+    parented c.self.invariant.tree c.self.view_is c.state_law-2.ensures c.loop-passed.here i.held c.parent.result c.parent.ensures p
 
 pub loop-passed-preserved : goal.loop-passed-preserved
 loop-passed-preserved g c =
@@ -38,12 +38,12 @@ loop-passed-preserved g c =
     let n = called c.self.inside.links c.loop-passed.here in
     let q = called c.self.inside.links c.unwrap-above.result in
     let h = stands c.self.invariant.tree c.self.view_is c.loop-passed.here i.held in
-    let u = up c.self.invariant.tree c.self.view_is c.sound-2.ensures c.loop-passed.here i.held c.unwrap-above.result (led c.unwrap-above.ensures c.parent.ensures) in
-    let a = above c.sound.ensures n q h u.1 in
+    let u = up c.self.invariant.tree c.self.view_is c.state_law-2.ensures c.loop-passed.here i.held c.unwrap-above.result (led c.unwrap-above.ensures c.parent.ensures) in
+    let a = above c.state_law.ensures n q h u.1 in
     record {
       held = u.0;
       child_held = λ x e. (let z : Some c.loop-passed.here ≡ Some x = sym c.to-child.ensures ∙ e in let d : c.loop-passed.here ≡ x = cc z in subst (IsPlaced c.self.inside.links) d i.held);
-      way = subst (λ o. IsOnWay c.args.self.now.forest c.args.id q (option_map (called c.self.inside.links) o)) (sym c.to-child.ensures) (way-up c.sound.ensures c.args.id n q _ c.requires.held i.way u.1);
+      way = subst (λ o. IsOnWay c.args.self.now.forest c.args.id q (option_map (called c.self.inside.links) o)) (sym c.to-child.ensures) (way-up c.state_law.ensures c.args.id n q _ c.requires.held i.way u.1);
       counted = omega (arith, ap length a.path, i.counted);
       start = λ z. absurd (omega (arith, z));
     }

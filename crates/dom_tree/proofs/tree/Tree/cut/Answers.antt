@@ -53,12 +53,12 @@ invariant_of-self g c =
     let places = ap (λ (q : Placed (Kept g.row.X.Denot)). q.places) c.number_cut.ensures in
     seated c.self.invariant c.unlink.new.self (c.unlink.ensures.places ∙ places)
     (cut-tree c.self.invariant.tree c.args.child (slot_of c.self.inside.links c.place_of-place.result) c.number_cut.new.links.arena c.unlink.new.self.arena first (unlinked-from c.self.inside.links c.number_cut.new.links places c.unlink.new.self c.place_of-place.result c.unlink.ensures.unlinked)
-    (cut-done c.self.invariant.tree c.self.view_is c.sound.ensures c.args.child (slot_of c.self.inside.links c.place_of-place.result) (slot-led c.place_of-place.ensures) c.requires c.number_cut.new.links.arena c.unlink.new.self.arena first (unlinked-from c.self.inside.links c.number_cut.new.links places c.unlink.new.self c.place_of-place.result c.unlink.ensures.unlinked)))
+    (cut-done c.self.invariant.tree c.self.view_is c.state_law.ensures c.args.child (slot_of c.self.inside.links c.place_of-place.result) (slot-led c.place_of-place.ensures) c.requires c.number_cut.new.links.arena c.unlink.new.self.arena first (unlinked-from c.self.inside.links c.number_cut.new.links places c.unlink.new.self c.place_of-place.result c.unlink.ensures.unlinked)))
     (subst (λ (a : Arena (Kept g.row.X.Denot)). AreBlocked (entry_at a) c.blocked_cut.new.blocks)
     (sym (unlinked-from c.self.inside.links c.number_cut.new.links places c.unlink.new.self c.place_of-place.result c.unlink.ensures.unlinked ∙ ap (λ (a : Arena (Kept g.row.X.Denot)). unlinked a (slot_of c.self.inside.links c.place_of-place.result)) first))
-    (cut-blocked c.self.invariant c.self.view_is c.sound.ensures (slot_of c.self.inside.links c.place_of-place.result)
+    (cut-blocked c.self.invariant c.self.view_is c.state_law.ensures (slot_of c.self.inside.links c.place_of-place.result)
     (parent-there c.self.invariant.tree c.self.view_is c.args.child (slot_of c.self.inside.links c.place_of-place.result) (slot-led c.place_of-place.ensures) c.requires) c.blocked_cut.new.blocks c.blocked_cut.ensures))
-    (tallied-cut c.self.inside.links.arena c.self.inside.tallies c.self.invariant.tallied c.sound.ensures (slot_of c.self.inside.links c.place_of-place.result)
+    (tallied-cut c.self.inside.links.arena c.self.inside.tallies c.self.invariant.tallied c.state_law.ensures (slot_of c.self.inside.links c.place_of-place.result)
     (parent-there c.self.invariant.tree c.self.view_is c.args.child (slot_of c.self.inside.links c.place_of-place.result) (slot-led c.place_of-place.ensures) c.requires) c.tallied_cut.new.tallies c.tallied_cut.ensures c.unlink.new.self.arena
     (unlinked-from c.self.inside.links c.number_cut.new.links places c.unlink.new.self c.place_of-place.result c.unlink.ensures.unlinked ∙ ap (λ (a : Arena (Kept g.row.X.Denot)). unlinked a (slot_of c.self.inside.links c.place_of-place.result)) first))
 
@@ -68,4 +68,4 @@ returns g c =
     let places = ap (λ (q : Placed (Kept g.row.X.Denot)). q.places) c.number_cut.ensures in
     same-places c.self.inside.links c.unlink.new.self c.self.inside.table.items (c.unlink.ensures.places ∙ places)
     (changed-shown c.self.invariant.tree c.self.view_is c.unlink.new.self.arena (cut c.args.child)
-    (cut-done c.self.invariant.tree c.self.view_is c.sound.ensures c.args.child (slot_of c.self.inside.links c.place_of-place.result) (slot-led c.place_of-place.ensures) c.requires c.number_cut.new.links.arena c.unlink.new.self.arena first (unlinked-from c.self.inside.links c.number_cut.new.links places c.unlink.new.self c.place_of-place.result c.unlink.ensures.unlinked)).same)
+    (cut-done c.self.invariant.tree c.self.view_is c.state_law.ensures c.args.child (slot_of c.self.inside.links c.place_of-place.result) (slot-led c.place_of-place.ensures) c.requires c.number_cut.new.links.arena c.unlink.new.self.arena first (unlinked-from c.self.inside.links c.number_cut.new.links places c.unlink.new.self c.place_of-place.result c.unlink.ensures.unlinked)).same)

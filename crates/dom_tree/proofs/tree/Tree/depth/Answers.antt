@@ -18,15 +18,15 @@ pub returns-in-None : goal.returns-in-None
 returns-in-None g c =
     let f = c.args.self.now.forest in
     let h = stands c.self.invariant.tree c.self.view_is c.loop-depth.here c.loop-depth.invariant.held in
-    let t = topmost c.self.invariant.tree c.self.view_is c.sound-2.ensures c.loop-depth.here c.loop-depth.invariant.held (led c.in-None.is c.parent.ensures) in
-    let r = ap length (root-path f c.sound.ensures.once (called c.self.inside.links c.loop-depth.here) (occurs-HasNode f (called c.self.inside.links c.loop-depth.here) h) t) in
+    let t = topmost c.self.invariant.tree c.self.view_is c.state_law-2.ensures c.loop-depth.here c.loop-depth.invariant.held (led c.in-None.is c.parent.ensures) in
+    let r = ap length (root-path f c.state_law.ensures.once (called c.self.inside.links c.loop-depth.here) (occurs-HasNode f (called c.self.inside.links c.loop-depth.here) h) t) in
     omega (arith, r, c.loop-depth.invariant.counted)
 
 pub loop-depth-preserved : goal.loop-depth-preserved
 loop-depth-preserved g c =
     let h = stands c.self.invariant.tree c.self.view_is c.loop-depth.here c.loop-depth.invariant.held in
-    let u = up c.self.invariant.tree c.self.view_is c.sound-2.ensures c.loop-depth.here c.loop-depth.invariant.held c.in-Some.parent (led c.in-Some.is c.parent.ensures) in
-    let a = above c.sound.ensures (called c.self.inside.links c.loop-depth.here) (called c.self.inside.links c.in-Some.parent) h u.1 in
+    let u = up c.self.invariant.tree c.self.view_is c.state_law-2.ensures c.loop-depth.here c.loop-depth.invariant.held c.in-Some.parent (led c.in-Some.is c.parent.ensures) in
+    let a = above c.state_law.ensures (called c.self.inside.links c.loop-depth.here) (called c.self.inside.links c.in-Some.parent) h u.1 in
     record { held = u.0; counted = omega (arith, ap length a.path, c.loop-depth.invariant.counted) }
 
 pub returns : goal.returns

@@ -5,7 +5,7 @@ use Rattle.dom_tree.proofs.SiblingLemmas.{indexed-child}
 use Rattle.dom_tree.proofs.tree.Tree.found_child.Goals as goal
 
 pub cache_index-requires-clause-held : goal.cache_index-requires-clause-held
-cache_index-requires-clause-held g c = child-held c.sound.ensures c.args.id c.in_ok-child.child c.args.index c.requires (sym c.in_ok-child.ensures)
+cache_index-requires-clause-held g c = child-held c.state_law.ensures c.args.id c.in_ok-child.child c.args.index c.requires (sym c.in_ok-child.ensures)
 
 pub cache_index-requires-clause-index : goal.cache_index-requires-clause-index
-cache_index-requires-clause-index g c = indexed-child c.sound.ensures c.args.id c.in_ok-child.child c.args.index (sym c.in_ok-child.ensures)
+cache_index-requires-clause-index g c = indexed-child c.state_law.ensures c.args.id c.in_ok-child.child c.args.index (sym c.in_ok-child.ensures)

@@ -4,7 +4,7 @@ use Rattle.dom_tree.proofs.FreeLemmas.{freeing-start, leaf-held, leaf-bare, free
 use Rattle.dom_tree.proofs.tree.Tree.free.Goals as goal
 
 pub loop-parent-init : goal.loop-parent-init
-loop-parent-init g c = freeing-start c.sound.ensures c.args.top c.requires.held c.requires.unnamed
+loop-parent-init g c = freeing-start c.state_law.ensures c.args.top c.requires.held c.requires.unnamed
 
 pub last_inside-leaf-requires : goal.last_inside-leaf-requires
 last_inside-leaf-requires g c = c.loop-parent.invariant.held
@@ -31,7 +31,7 @@ pub take_root-requires-in-loop-parent-clause-no_child : goal.take_root-requires-
 take_root-requires-in-loop-parent-clause-no_child g c = leaf-cut_bare c.loop-parent.invariant c.last_inside-leaf.result c.last_inside-leaf.ensures c.in-Some.parent (sym c.parent.ensures ∙ c.in-Some.is) c.cut.new.self c.cut.ensures
 
 pub loop-parent-smaller : goal.loop-parent-smaller
-loop-parent-smaller g c = freeing-smaller c.loop-parent.invariant c.last_inside-leaf.result c.last_inside-leaf.ensures c.in-Some.parent (sym c.parent.ensures ∙ c.in-Some.is) c.cut.new.self c.cut.ensures c.take_root-in-loop-parent.new.self c.take_root-in-loop-parent.ensures c.sound-in-loop-parent.ensures
+loop-parent-smaller g c = freeing-smaller c.loop-parent.invariant c.last_inside-leaf.result c.last_inside-leaf.ensures c.in-Some.parent (sym c.parent.ensures ∙ c.in-Some.is) c.cut.new.self c.cut.ensures c.take_root-in-loop-parent.new.self c.take_root-in-loop-parent.ensures c.state_law-in-loop-parent.ensures
 
 pub loop-parent-preserved : goal.loop-parent-preserved
-loop-parent-preserved g c = freeing-next c.loop-parent.invariant c.last_inside-leaf.result c.last_inside-leaf.ensures c.in-Some.parent (sym c.parent.ensures ∙ c.in-Some.is) c.cut.new.self c.cut.ensures c.take_root-in-loop-parent.new.self c.take_root-in-loop-parent.ensures c.sound-in-loop-parent.ensures
+loop-parent-preserved g c = freeing-next c.loop-parent.invariant c.last_inside-leaf.result c.last_inside-leaf.ensures c.in-Some.parent (sym c.parent.ensures ∙ c.in-Some.is) c.cut.new.self c.cut.ensures c.take_root-in-loop-parent.new.self c.take_root-in-loop-parent.ensures c.state_law-in-loop-parent.ensures

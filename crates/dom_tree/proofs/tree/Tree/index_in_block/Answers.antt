@@ -12,5 +12,5 @@ pub returns : goal.returns
 returns g c =
     let up = led c.in_ok-above.was c.parent.ensures in
     let s = slot_of c.self.inside.links c.place_of-place.result in
-    let place = index-slots c.self.invariant.tree c.self.view_is c.sound.ensures c.args.id s (slot-led c.place_of-place.ensures) ∙ ap (λ o. place_in s (list_under (entry_at c.self.inside.links.arena) o)) (slot-led up) in
+    let place = index-slots c.self.invariant.tree c.self.view_is c.state_law.ensures c.args.id s (slot-led c.place_of-place.ensures) ∙ ap (λ o. place_in s (list_under (entry_at c.self.inside.links.arena) o)) (slot-led up) in
     subst (λ n. IfSome c.index_in_block.result (λ i. i ≡ n)) (sym place) c.index_in_block.ensures

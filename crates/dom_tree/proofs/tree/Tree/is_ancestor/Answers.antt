@@ -10,7 +10,7 @@ use Rattle.dom_tree.proofs.tree.Tree.is_ancestor.Goals as goal
 pub returns-in_default : goal.returns-in_default
 returns-in_default g c =
     let e = sym (holds-read c.self.invariant.tree c.self.view_is c.args.above) ∙ ap is_some (sym (led c.in_default.is c.place_at.ensures).slot) in
-    sym (nothing-under c.sound.ensures c.args.above e c.args.id) ∙ sym (inside-same c.sound.ensures c.args.above c.args.id)
+    sym (nothing-under c.state_law.ensures c.args.above e c.args.id) ∙ sym (inside-same c.state_law.ensures c.args.above c.args.id)
 
 pub place_at-requires : goal.place_at-requires
 place_at-requires g c = c.self.invariant.placed
@@ -32,22 +32,22 @@ loop-self-init g c =
 pub loop-self-smaller : goal.loop-self-smaller
 loop-self-smaller g c =
     let h = stands c.self.invariant.tree c.self.view_is c.loop-self.here c.loop-self.invariant.held in
-    let u = up c.self.invariant.tree c.self.view_is c.sound-2.ensures c.loop-self.here c.loop-self.invariant.held c.in-Some-parent.parent (led c.in-Some-parent.is c.parent.ensures) in
-    shorter c.args.self.now.forest (called c.self.inside.links c.loop-self.here) (called c.self.inside.links c.in-Some-parent.parent) (above c.sound.ensures _ _ h u.1)
+    let u = up c.self.invariant.tree c.self.view_is c.state_law-2.ensures c.loop-self.here c.loop-self.invariant.held c.in-Some-parent.parent (led c.in-Some-parent.is c.parent.ensures) in
+    shorter c.args.self.now.forest (called c.self.inside.links c.loop-self.here) (called c.self.inside.links c.in-Some-parent.parent) (above c.state_law.ensures _ _ h u.1)
 
 pub loop-self-preserved : goal.loop-self-preserved
 loop-self-preserved g c =
     let h = stands c.self.invariant.tree c.self.view_is c.loop-self.here c.loop-self.invariant.held in
-    let u = up c.self.invariant.tree c.self.view_is c.sound-2.ensures c.loop-self.here c.loop-self.invariant.held c.in-Some-parent.parent (led c.in-Some-parent.is c.parent.ensures) in
+    let u = up c.self.invariant.tree c.self.view_is c.state_law-2.ensures c.loop-self.here c.loop-self.invariant.held c.in-Some-parent.parent (led c.in-Some-parent.is c.parent.ensures) in
     let ne = meets c.self.invariant.tree c.self.view_is c.loop-self.here c.args.above c.in-Some.end c.slot.result c.slot-end.result c.loop-self.invariant.held (led c.in-Some.is c.place_at.ensures) c.slot.ensures c.slot-end.ensures ∙ not-true (c.slot.result == c.slot-end.result) (sym c.ne.ensures ∙ c.loop-self-test.true) in
-    record { held = u.0; same = among-above c.args.self.now.forest c.args.above _ _ (above c.sound.ensures _ _ h u.1) ne ∙ c.loop-self.invariant.same }
+    record { held = u.0; same = among-above c.args.self.now.forest c.args.above _ _ (above c.state_law.ensures _ _ h u.1) ne ∙ c.loop-self.invariant.same }
 
 pub returns-in-None : goal.returns-in-None
 returns-in-None g c =
     let h = stands c.self.invariant.tree c.self.view_is c.loop-self.here c.loop-self.invariant.held in
-    let t = topmost c.self.invariant.tree c.self.view_is c.sound-2.ensures c.loop-self.here c.loop-self.invariant.held (led c.in-None.is c.parent.ensures) in
+    let t = topmost c.self.invariant.tree c.self.view_is c.state_law-2.ensures c.loop-self.here c.loop-self.invariant.held (led c.in-None.is c.parent.ensures) in
     let ne = meets c.self.invariant.tree c.self.view_is c.loop-self.here c.args.above c.in-Some.end c.slot.result c.slot-end.result c.loop-self.invariant.held (led c.in-Some.is c.place_at.ensures) c.slot.ensures c.slot-end.ensures ∙ not-true (c.slot.result == c.slot-end.result) (sym c.ne.ensures ∙ c.loop-self-test.true) in
-    among-top c.sound.ensures c.args.above _ h t ne ∙ c.loop-self.invariant.same
+    among-top c.state_law.ensures c.args.above _ h t ne ∙ c.loop-self.invariant.same
 
 pub returns : goal.returns
 returns g c =

@@ -14,19 +14,19 @@ first-requires g c = (led c.in-Some.is c.place_at.ensures).placed c.in-Some.plac
 pub returns-in_default : goal.returns-in_default
 returns-in_default g c =
     let e = sym (holds-read c.self.invariant.tree c.self.view_is c.args.top) ∙ ap is_some (sym (led c.in_default.is c.place_at.ensures).slot) in
-    sym (nothing-under c.sound.ensures c.args.top e c.args.node)
+    sym (nothing-under c.state_law.ensures c.args.top e c.args.node)
 
 pub returns-in-None : goal.returns-in-None
 returns-in-None g c =
     let f = c.args.self.now.forest in
     let b = begins c.self.invariant.tree c.self.view_is c.args.top c.in-Some.place (led c.in-Some.is c.place_at.ensures) in
     let h = subst (λ n. HasNode f n) b.1 (stands c.self.invariant.tree c.self.view_is c.in-Some.place b.0) in
-    let z : head_of (children_of f c.args.top) ≡ None = ap (λ n. head_of (children_of f n)) (sym b.1) ∙ childless c.self.invariant.tree c.self.view_is c.sound-2.ensures c.in-Some.place b.0 (led c.in-None.is c.first.ensures) in
-    c.eq.ensures ∙ sym (inside-alone c.sound.ensures c.args.top h z c.args.node)
+    let z : head_of (children_of f c.args.top) ≡ None = ap (λ n. head_of (children_of f n)) (sym b.1) ∙ childless c.self.invariant.tree c.self.view_is c.state_law-2.ensures c.in-Some.place b.0 (led c.in-None.is c.first.ensures) in
+    c.eq.ensures ∙ sym (inside-alone c.state_law.ensures c.args.top h z c.args.node)
 
 pub returns-then-holds : goal.returns-then-holds
-returns-then-holds g c = c.is_ancestor.ensures ∙ inside-same c.sound.ensures c.args.top c.args.node
+returns-then-holds g c = c.is_ancestor.ensures ∙ inside-same c.state_law.ensures c.args.top c.args.node
 
 pub returns-else-holds : goal.returns-else-holds
 returns-else-holds g c =
-    c.if-holds.false ∙ sym (inside-none c.sound.ensures c.args.top c.args.node (sym c.holds.ensures ∙ c.if-holds.false))
+    c.if-holds.false ∙ sym (inside-none c.state_law.ensures c.args.top c.args.node (sym c.holds.ensures ∙ c.if-holds.false))

@@ -15,7 +15,7 @@ value-requires-2 g c = (led c.in_ok-above.was c.parent.ensures).placed c.in_ok-a
 
 pub returns-then-index-value : goal.returns-then-index-value
 returns-then-index-value g c =
-    kept-read c.self.invariant.tree c.self.view_is c.sound.ensures c.args.id (slot_of c.self.inside.links c.place_of-place.result) (slot_of c.self.inside.links c.in_ok-above.above) (slot-led c.place_of-place.ensures) (slot-led (led c.in_ok-above.was c.parent.ensures)) c.value.result.now c.value-2.result.now _ _ c.behind-self.view_is c.behind-self-2.view_is c.value.ensures c.value-2.ensures c.if-index-value.true
+    kept-read c.self.invariant.tree c.self.view_is c.state_law.ensures c.args.id (slot_of c.self.inside.links c.place_of-place.result) (slot_of c.self.inside.links c.in_ok-above.above) (slot-led c.place_of-place.ensures) (slot-led (led c.in_ok-above.was c.parent.ensures)) c.value.result.now c.value-2.result.now _ _ c.behind-self.view_is c.behind-self-2.view_is c.value.ensures c.value-2.ensures c.if-index-value.true
 
 pub parent-requires : goal.parent-requires
 parent-requires g c = c.place_of-place.ensures.placed c.place_of-place.result refl

@@ -17,17 +17,17 @@ loop-last-init g c =
 pub loop-last-smaller : goal.loop-last-smaller
 loop-last-smaller g c =
     let h = stands c.self.invariant.tree c.self.view_is c.loop-last.here c.loop-last.invariant.held in
-    let d = down_last c.self.invariant.tree c.self.view_is c.sound-2.ensures c.loop-last.here c.loop-last.invariant.held c.in-Some.last (led c.in-Some.is c.last.ensures) in
-    (last-down c.sound.ensures (called c.self.inside.links c.loop-last.here) (called c.self.inside.links c.in-Some.last) h d.1).1.0
+    let d = down_last c.self.invariant.tree c.self.view_is c.state_law-2.ensures c.loop-last.here c.loop-last.invariant.held c.in-Some.last (led c.in-Some.is c.last.ensures) in
+    (last-down c.state_law.ensures (called c.self.inside.links c.loop-last.here) (called c.self.inside.links c.in-Some.last) h d.1).1.0
 
 pub loop-last-preserved : goal.loop-last-preserved
 loop-last-preserved g c =
     let h = stands c.self.invariant.tree c.self.view_is c.loop-last.here c.loop-last.invariant.held in
-    let d = down_last c.self.invariant.tree c.self.view_is c.sound-2.ensures c.loop-last.here c.loop-last.invariant.held c.in-Some.last (led c.in-Some.is c.last.ensures) in
-    record { held = d.0; same = (last-down c.sound.ensures (called c.self.inside.links c.loop-last.here) (called c.self.inside.links c.in-Some.last) h d.1).0 ∙ c.loop-last.invariant.same }
+    let d = down_last c.self.invariant.tree c.self.view_is c.state_law-2.ensures c.loop-last.here c.loop-last.invariant.held c.in-Some.last (led c.in-Some.is c.last.ensures) in
+    record { held = d.0; same = (last-down c.state_law.ensures (called c.self.inside.links c.loop-last.here) (called c.self.inside.links c.in-Some.last) h d.1).0 ∙ c.loop-last.invariant.same }
 
 pub returns : goal.returns
 returns g c =
     let h = stands c.self.invariant.tree c.self.view_is c.loop-last.here c.loop-last.invariant.held in
-    let z = leaf c.self.invariant.tree c.self.view_is c.sound-2.ensures c.loop-last.here c.loop-last.invariant.held (led c.in_default.is c.last.ensures) in
-    rw c.number_of.ensures (last-leaf c.sound.ensures (called c.self.inside.links c.loop-last.here) h z ∙ c.loop-last.invariant.same)
+    let z = leaf c.self.invariant.tree c.self.view_is c.state_law-2.ensures c.loop-last.here c.loop-last.invariant.held (led c.in_default.is c.last.ensures) in
+    rw c.number_of.ensures (last-leaf c.state_law.ensures (called c.self.inside.links c.loop-last.here) h z ∙ c.loop-last.invariant.same)

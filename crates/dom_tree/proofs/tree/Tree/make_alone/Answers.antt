@@ -17,15 +17,15 @@ invariant_of-self-2 g c =
     let pushed : c.push_reserved.new.self.items ≡ c.self.inside.table.items ++ Some c.place-place.result ∷ [] = c.push_reserved.ensures.items ∙ ap (λ (l : List (Option Ptr)). l ++ Some c.place-place.result ∷ []) c.reserve.ensures.items in
     let table_is : slots_in c.add.new.self c.push_reserved.new.self.items ≡ slots_in c.self.inside.links c.self.inside.table.items ++ Some c.in-Ok.slot ∷ [] = slots-made c.self.invariant c.add.new.self c.in-Ok.ensures.kept c.place-place.result c.push_reserved.new.self.items pushed ∙ ap (λ n. slots_in c.self.inside.links c.self.inside.table.items ++ Some n ∷ []) c.place-place.ensures.slot in
     let number_is : c.new-id.result ≡ length (slots_in c.self.inside.links c.self.inside.table.items) = c.new-id.ensures ∙ c.len.ensures ∙ ap length c.reserve.ensures.items ∙ sym (length-map c.self.inside.table.items (slots_of c.self.inside.links)) in
-    let done = made-keeps c.self.invariant.tree c.self.view_is c.sound.ensures x c.add.new.self.arena (slots_in c.add.new.self c.push_reserved.new.self.items) c.in-Ok.slot number_is fresh c.requires.room added_is slot_is table_is in
-    let tree = made-tree c.self.invariant.tree c.sound.ensures x c.add.new.self.arena (slots_in c.add.new.self c.push_reserved.new.self.items) c.in-Ok.slot number_is number_is refl fresh added_is slot_is table_is done in
+    let done = made-keeps c.self.invariant.tree c.self.view_is c.state_law.ensures x c.add.new.self.arena (slots_in c.add.new.self c.push_reserved.new.self.items) c.in-Ok.slot number_is fresh c.requires.room added_is slot_is table_is in
+    let tree = made-tree c.self.invariant.tree c.state_law.ensures x c.add.new.self.arena (slots_in c.add.new.self c.push_reserved.new.self.items) c.in-Ok.slot number_is number_is refl fresh added_is slot_is table_is done in
     let began : AreStarted c.in-Ok.slot c.label.inside.kind c.self.inside.tallies c.start.new.self = subst (λ (t : List (ℕ × Tally)). AreStarted c.in-Ok.slot c.label.inside.kind t c.start.new.self) c.reserve-2.ensures c.start.ensures in
     let started : AreStarted c.in-Ok.slot c.args.label.kind c.self.inside.tallies c.start.new.self = subst (λ k. AreStarted c.in-Ok.slot k c.self.inside.tallies c.start.new.self) (ap (λ (l : PlainLabel). l.kind) c.label.view_is) began in
     record {
       tree = tree;
       placed = placed-made c.self.invariant c.add.new.self c.in-Ok.ensures.kept c.place-place.result c.push_reserved.new.self.items pushed c.place-place.ensures.placed;
-      blocked = subst (λ (a : Arena (Kept g.row.X.Denot)). AreBlocked (entry_at a) c.self.inside.blocks) (sym added_is) (blocked-added c.sound.ensures c.self.inside.blocks c.self.invariant.blocked x (ap (entry_at c.self.inside.links.arena) (sym slot_is) ∙ fresh));
-      tallied = tallied-make c.self.inside.links.arena c.self.inside.tallies c.self.invariant.tallied c.sound.ensures x c.in-Ok.slot fresh slot_is c.start.new.self started c.add.new.self.arena added_is;
+      blocked = subst (λ (a : Arena (Kept g.row.X.Denot)). AreBlocked (entry_at a) c.self.inside.blocks) (sym added_is) (blocked-added c.state_law.ensures c.self.inside.blocks c.self.invariant.blocked x (ap (entry_at c.self.inside.links.arena) (sym slot_is) ∙ fresh));
+      tallied = tallied-make c.self.inside.links.arena c.self.inside.tallies c.self.invariant.tallied c.state_law.ensures x c.in-Ok.slot fresh slot_is c.start.new.self started c.add.new.self.arena added_is;
     }
 
 pub returns-clause-made : goal.returns-clause-made
@@ -37,7 +37,7 @@ returns-clause-made g c =
     let pushed : c.push_reserved.new.self.items ≡ c.self.inside.table.items ++ Some c.place-place.result ∷ [] = c.push_reserved.ensures.items ∙ ap (λ (l : List (Option Ptr)). l ++ Some c.place-place.result ∷ []) c.reserve.ensures.items in
     let table_is : slots_in c.add.new.self c.push_reserved.new.self.items ≡ slots_in c.self.inside.links c.self.inside.table.items ++ Some c.in-Ok.slot ∷ [] = slots-made c.self.invariant c.add.new.self c.in-Ok.ensures.kept c.place-place.result c.push_reserved.new.self.items pushed ∙ ap (λ n. slots_in c.self.inside.links c.self.inside.table.items ++ Some n ∷ []) c.place-place.ensures.slot in
     let number_is : c.new-id.result ≡ length (slots_in c.self.inside.links c.self.inside.table.items) = c.new-id.ensures ∙ c.len.ensures ∙ ap length c.reserve.ensures.items ∙ sym (length-map c.self.inside.table.items (slots_of c.self.inside.links)) in
-    let done = made-keeps c.self.invariant.tree c.self.view_is c.sound.ensures x c.add.new.self.arena (slots_in c.add.new.self c.push_reserved.new.self.items) c.in-Ok.slot number_is fresh c.requires.room added_is slot_is table_is in
+    let done = made-keeps c.self.invariant.tree c.self.view_is c.state_law.ensures x c.add.new.self.arena (slots_in c.add.new.self c.push_reserved.new.self.items) c.in-Ok.slot number_is fresh c.requires.room added_is slot_is table_is in
     let m = number_is ∙ made-is c.self.invariant.tree c.self.view_is in
     let y : Kept g.row.X.Denot = record { node = record { number = c.args.self.now.made; document = c.args.self.now.made; label = c.args.label; body = c.args.body }; index = 0; sure = 0; reach = 0; owned = 1 } in
     made-shown c.self.invariant.tree c.self.view_is x y c.add.new.self.arena (slots_in c.add.new.self c.push_reserved.new.self.items) c.in-Ok.slot
@@ -49,7 +49,7 @@ reserve-requires g c = omega (arith, c.requires.room, made-read c.self.invariant
 pub place-place-requires : goal.place-place-requires
 place-place-requires g c =
     let x : Kept g.row.X.Denot = record { node = record { number = c.new-id.result; document = c.new-id.result; label = c.args.label; body = c.args.body }; index = 0; sure = 0; reach = 0; owned = 1 } in
-    let there = added-new c.self.inside.links.arena x c.sound.ensures in
+    let there = added-new c.self.inside.links.arena x c.state_law.ensures in
     let at = ap (λ (a : Arena (Kept g.row.X.Denot)). entry_at a c.in-Ok.slot) c.in-Ok.ensures.added ∙ ap (entry_at (added c.self.inside.links.arena x)) c.in-Ok.ensures.slot ∙ there in
     rw at refl
 

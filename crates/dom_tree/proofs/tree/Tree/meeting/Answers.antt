@@ -20,8 +20,8 @@ fresh m n first second h k =
 pub returns-then-eq : goal.returns-then-eq
 returns-then-eq g c =
     let e : c.args.a ≡ c.args.b = eqb-true c.args.a c.args.b (sym c.eq.ensures ∙ c.if-eq.true) in
-    let w = way-start c.sound.ensures c.args.b c.requires.b_held in
-    record { first = way-start c.sound.ensures c.args.a c.requires.a_held; second = subst (λ n. IsOnWay c.args.self.now.forest c.args.b n None) (sym e) w; apart = tt }
+    let w = way-start c.state_law.ensures c.args.b c.requires.b_held in
+    record { first = way-start c.state_law.ensures c.args.a c.requires.a_held; second = subst (λ n. IsOnWay c.args.self.now.forest c.args.b n None) (sym e) w; apart = tt }
 
 pub returns-then-eq-2 : goal.returns-then-eq-2
 returns-then-eq-2 g c =
@@ -34,16 +34,16 @@ returns-then-eq-2 g c =
 
 pub fork-fork-requires : goal.fork-fork-requires
 fork-fork-requires g c = record {
-  a_held = way-held c.sound.ensures c.args.a c.climbed-first.result.node c.climbed-first.result.child c.requires.a_held c.climbed-first.ensures.way;
-  b_held = way-held c.sound.ensures c.args.b c.climbed-second.result.node c.climbed-second.result.child c.requires.b_held c.climbed-second.ensures.way;
+  a_held = way-held c.state_law.ensures c.args.a c.climbed-first.result.node c.climbed-first.result.child c.requires.a_held c.climbed-first.ensures.way;
+  b_held = way-held c.state_law.ensures c.args.b c.climbed-second.result.node c.climbed-second.result.child c.requires.b_held c.climbed-second.ensures.way;
   apart = eqb-false c.climbed-first.result.node c.climbed-second.result.node (sym c.eq-2.ensures ∙ c.if-eq-2.false);
-  one_root = way-root c.sound.ensures c.args.a c.climbed-first.result.node c.climbed-first.result.child c.requires.a_held c.climbed-first.ensures.way ∙ c.requires.one_root ∙ sym (way-root c.sound.ensures c.args.b c.climbed-second.result.node c.climbed-second.result.child c.requires.b_held c.climbed-second.ensures.way);
+  one_root = way-root c.state_law.ensures c.args.a c.climbed-first.result.node c.climbed-first.result.child c.requires.a_held c.climbed-first.ensures.way ∙ c.requires.one_root ∙ sym (way-root c.state_law.ensures c.args.b c.climbed-second.result.node c.climbed-second.result.child c.requires.b_held c.climbed-second.ensures.way);
   one_depth = omega (arith, c.climbed-first.ensures.height, c.climbed-second.ensures.height, c.depth-a_depth.ensures, c.depth-b_depth.ensures, c.saturating_sub.ensures, c.saturating_sub-2.ensures);
 }
 
 pub returns : goal.returns
 returns g c = record {
-  first = way-on c.sound.ensures c.args.a c.climbed-first.result.node c.fork-fork.result.node c.fork-fork.result.left c.climbed-first.ensures.way.above c.fork-fork.ensures.left;
-  second = way-on c.sound.ensures c.args.b c.climbed-second.result.node c.fork-fork.result.node c.fork-fork.result.right c.climbed-second.ensures.way.above c.fork-fork.ensures.right;
+  first = way-on c.state_law.ensures c.args.a c.climbed-first.result.node c.fork-fork.result.node c.fork-fork.result.left c.climbed-first.ensures.way.above c.fork-fork.ensures.left;
+  second = way-on c.state_law.ensures c.args.b c.climbed-second.result.node c.fork-fork.result.node c.fork-fork.result.right c.climbed-second.ensures.way.above c.fork-fork.ensures.right;
   apart = c.fork-fork.ensures.apart;
 }

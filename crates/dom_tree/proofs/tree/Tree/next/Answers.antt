@@ -15,4 +15,4 @@ named-requires g c = c.next.ensures.placed
 
 pub returns : goal.returns
 returns g c =
-    next-read c.self.invariant.tree c.self.view_is c.sound.ensures c.args.id (slot_of c.self.inside.links c.place_of-place.result) (slots_of c.self.inside.links c.next.result) c.named.result (slot-led c.place_of-place.ensures) c.next.ensures.slot (numbers-led c.self.inside.links c.next.result c.named.result c.named.ensures)
+    next-read c.self.invariant.tree c.self.view_is c.state_law.ensures c.args.id (slot_of c.self.inside.links c.place_of-place.result) (slots_of c.self.inside.links c.next.result) c.named.result (slot-led c.place_of-place.ensures) c.next.ensures.slot (numbers-led c.self.inside.links c.next.result c.named.result c.named.ensures)

@@ -16,16 +16,16 @@ first-requires g c = (begins c.self.invariant.tree c.self.view_is c.args.id c.pl
 pub number_of-requires : goal.number_of-requires
 number_of-requires g c =
     let b = begins c.self.invariant.tree c.self.view_is c.args.id c.place_of-here.result c.place_of-here.ensures in
-    (down c.self.invariant.tree c.self.view_is c.sound-2.ensures c.place_of-here.result b.0 c.in-Some.child (led c.in-Some.is c.first.ensures)).0
+    (down c.self.invariant.tree c.self.view_is c.state_law-2.ensures c.place_of-here.result b.0 c.in-Some.child (led c.in-Some.is c.first.ensures)).0
 
 pub returns-in-Some : goal.returns-in-Some
 returns-in-Some g c =
     let b = begins c.self.invariant.tree c.self.view_is c.args.id c.place_of-here.result c.place_of-here.ensures in
-    let d = down c.self.invariant.tree c.self.view_is c.sound-2.ensures c.place_of-here.result b.0 c.in-Some.child (led c.in-Some.is c.first.ensures) in
-    rw c.number_of.ensures (first-after c.sound.ensures c.args.top c.args.id (called c.self.inside.links c.in-Some.child) (inside c.sound.ensures c.args.top c.args.id c.requires.under) (ap (λ n. head_of (children_of c.args.self.now.forest n)) (sym b.1) ∙ d.1))
+    let d = down c.self.invariant.tree c.self.view_is c.state_law-2.ensures c.place_of-here.result b.0 c.in-Some.child (led c.in-Some.is c.first.ensures) in
+    rw c.number_of.ensures (first-after c.state_law.ensures c.args.top c.args.id (called c.self.inside.links c.in-Some.child) (inside c.state_law.ensures c.args.top c.args.id c.requires.under) (ap (λ n. head_of (children_of c.args.self.now.forest n)) (sym b.1) ∙ d.1))
 
 pub place_of-requires : goal.place_of-requires
-place_of-requires g c = place-held c.self.invariant c.self.view_is c.args.top (top-there c.sound.ensures c.args.top c.args.id c.requires.under)
+place_of-requires g c = place-held c.self.invariant c.self.view_is c.args.top (top-there c.state_law.ensures c.args.top c.args.id c.requires.under)
 
 pub slot-end-requires : goal.slot-end-requires
 slot-end-requires g c = c.place_of.ensures.placed c.place_of.result refl
@@ -36,48 +36,48 @@ slot-requires g c = c.loop-self.invariant.held
 pub loop-self-init : goal.loop-self-init
 loop-self-init g c =
     let b = begins c.self.invariant.tree c.self.view_is c.args.id c.place_of-here.result c.place_of-here.ensures in
-    let d = childless c.self.invariant.tree c.self.view_is c.sound-2.ensures c.place_of-here.result b.0 (led c.in_default.is c.first.ensures) in
-    let i = inside c.sound.ensures c.args.top c.args.id c.requires.under in
+    let d = childless c.self.invariant.tree c.self.view_is c.state_law-2.ensures c.place_of-here.result b.0 (led c.in_default.is c.first.ensures) in
+    let i = inside c.state_law.ensures c.args.top c.args.id c.requires.under in
     record {
       held = b.0;
       within = subst (λ n. 0 < occurs n (tree_at c.args.top c.args.self.now.forest)) (sym b.1) i;
-      same = none-after c.sound.ensures c.args.top c.args.id i (ap (λ n. head_of (children_of c.args.self.now.forest n)) (sym b.1) ∙ d) ∙ ap (λ n. past None n (tree_at c.args.top c.args.self.now.forest)) (sym b.1);
+      same = none-after c.state_law.ensures c.args.top c.args.id i (ap (λ n. head_of (children_of c.args.self.now.forest n)) (sym b.1) ∙ d) ∙ ap (λ n. past None n (tree_at c.args.top c.args.self.now.forest)) (sym b.1);
     }
 
 pub number_of-requires-in-Some-next : goal.number_of-requires-in-Some-next
 number_of-requires-in-Some-next g c =
-    (on c.self.invariant.tree c.self.view_is c.sound-2.ensures c.loop-self.here c.loop-self.invariant.held c.in-Some-next.next (led c.in-Some-next.is c.next.ensures)).0
+    (on c.self.invariant.tree c.self.view_is c.state_law-2.ensures c.loop-self.here c.loop-self.invariant.held c.in-Some-next.next (led c.in-Some-next.is c.next.ensures)).0
 
 pub returns-in-Some-next : goal.returns-in-Some-next
 returns-in-Some-next g c =
-    let o = on c.self.invariant.tree c.self.view_is c.sound-2.ensures c.loop-self.here c.loop-self.invariant.held c.in-Some-next.next (led c.in-Some-next.is c.next.ensures) in
+    let o = on c.self.invariant.tree c.self.view_is c.state_law-2.ensures c.loop-self.here c.loop-self.invariant.held c.in-Some-next.next (led c.in-Some-next.is c.next.ensures) in
     let t = meets c.self.invariant.tree c.self.view_is c.loop-self.here c.args.top c.place_of.result c.slot.result c.slot-end.result c.loop-self.invariant.held c.place_of.ensures c.slot.ensures c.slot-end.ensures ∙ not-true (c.slot.result == c.slot-end.result) (sym c.ne.ensures ∙ c.loop-self-test.true) in
     let ne = eqb-false (called c.self.inside.links c.loop-self.here) c.args.top t in
-    rw c.number_of-in-Some-next.ensures (sym (c.loop-self.invariant.same ∙ tree-next c.sound.ensures c.args.top (called c.self.inside.links c.loop-self.here) (called c.self.inside.links c.in-Some-next.next) c.loop-self.invariant.within ne o.1))
+    rw c.number_of-in-Some-next.ensures (sym (c.loop-self.invariant.same ∙ tree-next c.state_law.ensures c.args.top (called c.self.inside.links c.loop-self.here) (called c.self.inside.links c.in-Some-next.next) c.loop-self.invariant.within ne o.1))
 
 pub unwrap-here-requires : goal.unwrap-here-requires
 unwrap-here-requires g c =
-    let n = hindmost c.self.invariant.tree c.self.view_is c.sound-2.ensures c.loop-self.here c.loop-self.invariant.held (led c.in_default-next.is c.next.ensures) in
+    let n = hindmost c.self.invariant.tree c.self.view_is c.state_law-2.ensures c.loop-self.here c.loop-self.invariant.held (led c.in_default-next.is c.next.ensures) in
     let t = meets c.self.invariant.tree c.self.view_is c.loop-self.here c.args.top c.place_of.result c.slot.result c.slot-end.result c.loop-self.invariant.held c.place_of.ensures c.slot.ensures c.slot-end.ensures ∙ not-true (c.slot.result == c.slot-end.result) (sym c.ne.ensures ∙ c.loop-self-test.true) in
     let ne = eqb-false (called c.self.inside.links c.loop-self.here) c.args.top t in
-    let p = tree-parent c.sound.ensures c.args.top (called c.self.inside.links c.loop-self.here) c.loop-self.invariant.within ne n in
-    parented c.self.invariant.tree c.self.view_is c.sound-2.ensures c.loop-self.here c.loop-self.invariant.held c.parent.result c.parent.ensures p
+    let p = tree-parent c.state_law.ensures c.args.top (called c.self.inside.links c.loop-self.here) c.loop-self.invariant.within ne n in
+    parented c.self.invariant.tree c.self.view_is c.state_law-2.ensures c.loop-self.here c.loop-self.invariant.held c.parent.result c.parent.ensures p
 
 pub loop-self-smaller : goal.loop-self-smaller
 loop-self-smaller g c =
     let h = stands c.self.invariant.tree c.self.view_is c.loop-self.here c.loop-self.invariant.held in
-    let u = up c.self.invariant.tree c.self.view_is c.sound-2.ensures c.loop-self.here c.loop-self.invariant.held c.unwrap-here.result (led c.unwrap-here.ensures c.parent.ensures) in
-    shorter c.args.self.now.forest (called c.self.inside.links c.loop-self.here) (called c.self.inside.links c.unwrap-here.result) (above c.sound.ensures _ _ h u.1)
+    let u = up c.self.invariant.tree c.self.view_is c.state_law-2.ensures c.loop-self.here c.loop-self.invariant.held c.unwrap-here.result (led c.unwrap-here.ensures c.parent.ensures) in
+    shorter c.args.self.now.forest (called c.self.inside.links c.loop-self.here) (called c.self.inside.links c.unwrap-here.result) (above c.state_law.ensures _ _ h u.1)
 
 pub loop-self-preserved : goal.loop-self-preserved
 loop-self-preserved g c =
-    let n = hindmost c.self.invariant.tree c.self.view_is c.sound-2.ensures c.loop-self.here c.loop-self.invariant.held (led c.in_default-next.is c.next.ensures) in
-    let u = up c.self.invariant.tree c.self.view_is c.sound-2.ensures c.loop-self.here c.loop-self.invariant.held c.unwrap-here.result (led c.unwrap-here.ensures c.parent.ensures) in
+    let n = hindmost c.self.invariant.tree c.self.view_is c.state_law-2.ensures c.loop-self.here c.loop-self.invariant.held (led c.in_default-next.is c.next.ensures) in
+    let u = up c.self.invariant.tree c.self.view_is c.state_law-2.ensures c.loop-self.here c.loop-self.invariant.held c.unwrap-here.result (led c.unwrap-here.ensures c.parent.ensures) in
     let t = meets c.self.invariant.tree c.self.view_is c.loop-self.here c.args.top c.place_of.result c.slot.result c.slot-end.result c.loop-self.invariant.held c.place_of.ensures c.slot.ensures c.slot-end.ensures ∙ not-true (c.slot.result == c.slot-end.result) (sym c.ne.ensures ∙ c.loop-self-test.true) in
-    let k = tree-up c.sound.ensures c.args.top (called c.self.inside.links c.loop-self.here) (called c.self.inside.links c.unwrap-here.result) c.loop-self.invariant.within (eqb-false (called c.self.inside.links c.loop-self.here) c.args.top t) n u.1 in
+    let k = tree-up c.state_law.ensures c.args.top (called c.self.inside.links c.loop-self.here) (called c.self.inside.links c.unwrap-here.result) c.loop-self.invariant.within (eqb-false (called c.self.inside.links c.loop-self.here) c.args.top t) n u.1 in
     record { held = u.0; within = k.0; same = c.loop-self.invariant.same ∙ k.1 }
 
 pub returns : goal.returns
 returns g c =
     let t = meets c.self.invariant.tree c.self.view_is c.loop-self.here c.args.top c.place_of.result c.slot.result c.slot-end.result c.loop-self.invariant.held c.place_of.ensures c.slot.ensures c.slot-end.ensures ∙ not-false (c.slot.result == c.slot-end.result) (sym c.ne.ensures ∙ c.loop-self-test.false) in
-    sym (c.loop-self.invariant.same ∙ tree-top c.sound.ensures c.args.top (called c.self.inside.links c.loop-self.here) c.loop-self.invariant.within (eqb-true (called c.self.inside.links c.loop-self.here) c.args.top t))
+    sym (c.loop-self.invariant.same ∙ tree-top c.state_law.ensures c.args.top (called c.self.inside.links c.loop-self.here) c.loop-self.invariant.within (eqb-true (called c.self.inside.links c.loop-self.here) c.args.top t))

@@ -9,10 +9,10 @@ pub index-index-requires : goal.index-index-requires
 index-index-requires g c =
     let f = c.args.self.now.forest in
     let last = c.in-Some.last in
-    HasNode-occurs f last (child-there f c.sound.ensures.once last c.args.parent (hits-last_of (children_of f c.args.parent) last (sym c.last.ensures ∙ c.in-Some.is)))
+    HasNode-occurs f last (child-there f c.state_law.ensures.once last c.args.parent (hits-last_of (children_of f c.args.parent) last (sym c.last.ensures ∙ c.in-Some.is)))
 
 pub cache_index-requires-clause-held : goal.cache_index-requires-clause-held
 cache_index-requires-clause-held g c =
     let f = c.args.self.now.forest in
     let last = c.in-Some.last in
-    HasNode-occurs f last (child-there f c.sound.ensures.once last c.args.parent (hits-last_of (children_of f c.args.parent) last (sym c.last.ensures ∙ c.in-Some.is)))
+    HasNode-occurs f last (child-there f c.state_law.ensures.once last c.args.parent (hits-last_of (children_of f c.args.parent) last (sym c.last.ensures ∙ c.in-Some.is)))

@@ -15,4 +15,4 @@ named-requires g c = c.prev.ensures.placed
 
 pub returns : goal.returns
 returns g c =
-    previous-read c.self.invariant.tree c.self.view_is c.sound.ensures c.args.id (slot_of c.self.inside.links c.place_of-place.result) (slots_of c.self.inside.links c.prev.result) c.named.result (slot-led c.place_of-place.ensures) c.prev.ensures.slot (numbers-led c.self.inside.links c.prev.result c.named.result c.named.ensures)
+    previous-read c.self.invariant.tree c.self.view_is c.state_law.ensures c.args.id (slot_of c.self.inside.links c.place_of-place.result) (slots_of c.self.inside.links c.prev.result) c.named.result (slot-led c.place_of-place.ensures) c.prev.ensures.slot (numbers-led c.self.inside.links c.prev.result c.named.result c.named.ensures)

@@ -26,20 +26,20 @@ put_at-requires-clause-no_parent g c =
 
 pub put_at-requires-clause-no_cycle : goal.put_at-requires-clause-no_cycle
 put_at-requires-clause-no_cycle g c =
-    no_cycle-slots c.self.invariant.tree c.self.view_is c.sound.ensures c.args.parent (slot_of c.self.inside.links c.place_of-above.result) c.args.child (slot_of c.self.inside.links c.place_of-below.result) (slot-led c.place_of-above.ensures) (slot-led c.place_of-below.ensures) c.requires.no_cycle
+    no_cycle-slots c.self.invariant.tree c.self.view_is c.state_law.ensures c.args.parent (slot_of c.self.inside.links c.place_of-above.result) c.args.child (slot_of c.self.inside.links c.place_of-below.result) (slot-led c.place_of-above.ensures) (slot-led c.place_of-below.ensures) c.requires.no_cycle
 
 pub put_at-requires-clause-before_placed : goal.put_at-requires-clause-before_placed
 put_at-requires-clause-before_placed g c = c.link_to-next.ensures.placed
 
 pub put_at-requires-clause-before_under : goal.put_at-requires-clause-before_under
 put_at-requires-clause-before_under g c = λ b e.
-    parent-same c.self.invariant.tree c.self.view_is c.sound.ensures c.args.before c.args.parent (slot_of c.self.inside.links c.place_of-above.result) (slots_of c.self.inside.links c.link_to-next.result) (slot-led c.place_of-above.ensures) (sym c.link_to-next.ensures.slot) c.requires.before_under (slot_of c.self.inside.links b) (ap (slots_of c.self.inside.links) e)
+    parent-same c.self.invariant.tree c.self.view_is c.state_law.ensures c.args.before c.args.parent (slot_of c.self.inside.links c.place_of-above.result) (slots_of c.self.inside.links c.link_to-next.result) (slot-led c.place_of-above.ensures) (sym c.link_to-next.ensures.slot) c.requires.before_under (slot_of c.self.inside.links b) (ap (slots_of c.self.inside.links) e)
 
 pub put_at-requires-clause-tallied : goal.put_at-requires-clause-tallied
 put_at-requires-clause-tallied g c = c.self.invariant.tallied
 
 pub invariant_of-self : goal.invariant_of-self
-invariant_of-self g c = put_at-seated c.self.invariant c.self.view_is c.sound.ensures c.args.parent c.args.child c.args.before c.place_of-above.ensures c.place_of-below.ensures c.link_to-next.ensures c.requires.parent_held c.requires.child_held c.requires.no_parent c.requires.no_cycle c.requires.before_under c.requires.kinds c.put_at.ensures
+invariant_of-self g c = put_at-seated c.self.invariant c.self.view_is c.state_law.ensures c.args.parent c.args.child c.args.before c.place_of-above.ensures c.place_of-below.ensures c.link_to-next.ensures c.requires.parent_held c.requires.child_held c.requires.no_parent c.requires.no_cycle c.requires.before_under c.requires.kinds c.put_at.ensures
 
 pub returns : goal.returns
-returns g c = put_at-shown c.self.invariant c.self.view_is c.sound.ensures c.args.parent c.args.child c.args.before c.place_of-above.ensures c.place_of-below.ensures c.link_to-next.ensures c.requires.parent_held c.requires.child_held c.requires.no_parent c.requires.no_cycle c.requires.before_under c.requires.kinds c.put_at.ensures
+returns g c = put_at-shown c.self.invariant c.self.view_is c.state_law.ensures c.args.parent c.args.child c.args.before c.place_of-above.ensures c.place_of-below.ensures c.link_to-next.ensures c.requires.parent_held c.requires.child_held c.requires.no_parent c.requires.no_cycle c.requires.before_under c.requires.kinds c.put_at.ensures

@@ -36,21 +36,21 @@ put_at-requires-clause-no_cycle g c =
     let la = led c.in-Some.is c.place_at.ensures in
     let lb = led c.in-Some-place_at.is c.place_at-2.ensures in
     let i = leaf-led c.self.invariant c.self.view_is c.args.parent c.args.leaf la lb (c.is_leaf_for.ensures.is c.if-not-is_leaf_for.false) in
-    no_cycle-slots c.self.invariant.tree c.self.view_is c.sound-2.ensures c.args.parent (slot_of c.self.inside.links c.in-Some.above) c.args.leaf (slot_of c.self.inside.links c.in-Some-place_at.below) (slot-led la) (slot-led lb) (leaf-outside c.sound.ensures i)
+    no_cycle-slots c.self.invariant.tree c.self.view_is c.state_law-2.ensures c.args.parent (slot_of c.self.inside.links c.in-Some.above) c.args.leaf (slot_of c.self.inside.links c.in-Some-place_at.below) (slot-led la) (slot-led lb) (leaf-outside c.state_law.ensures i)
 
 pub invariant_of-self : goal.invariant_of-self
 invariant_of-self g c =
     let la = led c.in-Some.is c.place_at.ensures in
     let lb = led c.in-Some-place_at.is c.place_at-2.ensures in
     let i = leaf-led c.self.invariant c.self.view_is c.args.parent c.args.leaf la lb (c.is_leaf_for.ensures.is c.if-not-is_leaf_for.false) in
-    put_at-seated c.self.invariant c.self.view_is c.sound-2.ensures c.args.parent c.args.leaf None la lb (led-nowhere c.none.result c.none.ensures) i.parent_there i.leaf_there i.root (leaf-outside c.sound.ensures i) (λ b e. absurd (cc e)) (leaf-may c.sound.ensures i) c.put_at.ensures
+    put_at-seated c.self.invariant c.self.view_is c.state_law-2.ensures c.args.parent c.args.leaf None la lb (led-nowhere c.none.result c.none.ensures) i.parent_there i.leaf_there i.root (leaf-outside c.state_law.ensures i) (λ b e. absurd (cc e)) (leaf-may c.state_law.ensures i) c.put_at.ensures
 
 pub returns-clause-put : goal.returns-clause-put
 returns-clause-put g c =
     let la = led c.in-Some.is c.place_at.ensures in
     let lb = led c.in-Some-place_at.is c.place_at-2.ensures in
     let i = leaf-led c.self.invariant c.self.view_is c.args.parent c.args.leaf la lb (c.is_leaf_for.ensures.is c.if-not-is_leaf_for.false) in
-    λ e. put_at-shown c.self.invariant c.self.view_is c.sound-2.ensures c.args.parent c.args.leaf None la lb (led-nowhere c.none.result c.none.ensures) i.parent_there i.leaf_there i.root (leaf-outside c.sound.ensures i) (λ b e. absurd (cc e)) (leaf-may c.sound.ensures i) c.put_at.ensures
+    λ e. put_at-shown c.self.invariant c.self.view_is c.state_law-2.ensures c.args.parent c.args.leaf None la lb (led-nowhere c.none.result c.none.ensures) i.parent_there i.leaf_there i.root (leaf-outside c.state_law.ensures i) (λ b e. absurd (cc e)) (leaf-may c.state_law.ensures i) c.put_at.ensures
 
 pub returns-in_default-clause-not : goal.returns-in_default-clause-not
 returns-in_default-clause-not g c = λ e. inl (λ i. nowhere-held c.self.invariant c.self.view_is c.args.parent c.place_at.result c.in_default.is c.place_at.ensures i.parent_there)

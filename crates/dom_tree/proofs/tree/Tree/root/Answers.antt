@@ -16,17 +16,17 @@ loop-above-init g c =
 
 pub loop-above-smaller : goal.loop-above-smaller
 loop-above-smaller g c =
-    let u = up c.self.invariant.tree c.self.view_is c.sound-2.ensures c.loop-above.top c.loop-above.invariant.held c.in-Some.above (led c.in-Some.is c.parent.ensures) in
-    shorter c.args.self.now.forest (called c.self.inside.links c.loop-above.top) (called c.self.inside.links c.in-Some.above) (above c.sound.ensures _ _ (stands c.self.invariant.tree c.self.view_is c.loop-above.top c.loop-above.invariant.held) u.1)
+    let u = up c.self.invariant.tree c.self.view_is c.state_law-2.ensures c.loop-above.top c.loop-above.invariant.held c.in-Some.above (led c.in-Some.is c.parent.ensures) in
+    shorter c.args.self.now.forest (called c.self.inside.links c.loop-above.top) (called c.self.inside.links c.in-Some.above) (above c.state_law.ensures _ _ (stands c.self.invariant.tree c.self.view_is c.loop-above.top c.loop-above.invariant.held) u.1)
 
 pub loop-above-preserved : goal.loop-above-preserved
 loop-above-preserved g c =
-    let u = up c.self.invariant.tree c.self.view_is c.sound-2.ensures c.loop-above.top c.loop-above.invariant.held c.in-Some.above (led c.in-Some.is c.parent.ensures) in
-    let a = above c.sound.ensures _ _ (stands c.self.invariant.tree c.self.view_is c.loop-above.top c.loop-above.invariant.held) u.1 in
+    let u = up c.self.invariant.tree c.self.view_is c.state_law-2.ensures c.loop-above.top c.loop-above.invariant.held c.in-Some.above (led c.in-Some.is c.parent.ensures) in
+    let a = above c.state_law.ensures _ _ (stands c.self.invariant.tree c.self.view_is c.loop-above.top c.loop-above.invariant.held) u.1 in
     record { held = u.0; same = root-above c.args.self.now.forest _ _ a ∙ c.loop-above.invariant.same }
 
 pub returns : goal.returns
 returns g c =
     let h = stands c.self.invariant.tree c.self.view_is c.loop-above.top c.loop-above.invariant.held in
-    let t = topmost c.self.invariant.tree c.self.view_is c.sound-2.ensures c.loop-above.top c.loop-above.invariant.held (led c.in_default.is c.parent.ensures) in
-    rw c.number_of.ensures (sym (root-is c.sound.ensures _ h t) ∙ c.loop-above.invariant.same)
+    let t = topmost c.self.invariant.tree c.self.view_is c.state_law-2.ensures c.loop-above.top c.loop-above.invariant.held (led c.in_default.is c.parent.ensures) in
+    rw c.number_of.ensures (sym (root-is c.state_law.ensures _ h t) ∙ c.loop-above.invariant.same)

@@ -33,7 +33,7 @@ clear-requires g c =
     omega (arith, within c.self.inside.table.items c.args.id listed.there, c.number.ensures)
 
 pub overflow_sub-self : goal.overflow_sub-self
-overflow_sub-self g c = take-live c.self.invariant.tree c.self.view_is c.sound.ensures c.args.id c.slot-slot.result (slot-led c.place_of-place.ensures ∙ ap Some (sym c.slot-slot.ensures)) c.requires.no_parent c.requires.no_child c.take-item.new.self.arena c.take-item.ensures.taken c.sound-2.ensures
+overflow_sub-self g c = take-live c.self.invariant.tree c.self.view_is c.state_law.ensures c.args.id c.slot-slot.result (slot-led c.place_of-place.ensures ∙ ap Some (sym c.slot-slot.ensures)) c.requires.no_parent c.requires.no_child c.take-item.new.self.arena c.take-item.ensures.taken c.state_law-2.ensures
 
 pub invariant_of-self : goal.invariant_of-self
 invariant_of-self g c = record {
@@ -42,20 +42,20 @@ invariant_of-self g c = record {
       (ap (λ (q : Grove g.row.X.Denot). document_in q.forest c.args.id) c.self.view_is ∙ c.requires.itself)
       (ap (λ (q : Grove g.row.X.Denot). parent_of q.forest c.args.id) c.self.view_is ∙ c.requires.no_parent)
       (ap (λ (q : Grove g.row.X.Denot). children_of q.forest c.args.id) c.self.view_is ∙ c.requires.no_child)
-      c.take-item.new.self.arena c.take-item.ensures.taken c.sound-2.ensures (slots_in c.take-item.new.self c.clear.new.self.items) (slots-taken c.self.invariant c.take-item.new.self c.args.id c.slot-slot.result (slot-led c.place_of-place.ensures ∙ ap Some (sym c.slot-slot.ensures)) c.take-item.ensures.kept c.number.result c.number.ensures c.clear.new.self.items c.clear.ensures.items ∙ ap (λ n. slice_set (slots_in c.self.inside.links c.self.inside.table.items) n None) c.number.ensures) _
+      c.take-item.new.self.arena c.take-item.ensures.taken c.state_law-2.ensures (slots_in c.take-item.new.self c.clear.new.self.items) (slots-taken c.self.invariant c.take-item.new.self c.args.id c.slot-slot.result (slot-led c.place_of-place.ensures ∙ ap Some (sym c.slot-slot.ensures)) c.take-item.ensures.kept c.number.result c.number.ensures c.clear.new.self.items c.clear.ensures.items ∙ ap (λ n. slice_set (slots_in c.self.inside.links c.self.inside.table.items) n None) c.number.ensures) _
       (taken-known c.self.inside.strays _ (held-slot c.self.invariant.tree c.self.view_is c.args.id c.slot-slot.result (slot-led c.place_of-place.ensures ∙ ap Some (sym c.slot-slot.ensures))) c.take-item.result _ c.item.view_is c.take-item.ensures.value)
-      (take-done c.self.invariant.tree c.self.view_is c.sound.ensures c.args.id c.slot-slot.result (slot-led c.place_of-place.ensures ∙ ap Some (sym c.slot-slot.ensures)) c.requires.no_parent c.requires.no_child c.take-item.new.self.arena c.take-item.ensures.taken c.sound-2.ensures c.number.result (slots_in c.take-item.new.self c.clear.new.self.items) c.number.ensures (slots-taken c.self.invariant c.take-item.new.self c.args.id c.slot-slot.result (slot-led c.place_of-place.ensures ∙ ap Some (sym c.slot-slot.ensures)) c.take-item.ensures.kept c.number.result c.number.ensures c.clear.new.self.items c.clear.ensures.items));
+      (take-done c.self.invariant.tree c.self.view_is c.state_law.ensures c.args.id c.slot-slot.result (slot-led c.place_of-place.ensures ∙ ap Some (sym c.slot-slot.ensures)) c.requires.no_parent c.requires.no_child c.take-item.new.self.arena c.take-item.ensures.taken c.state_law-2.ensures c.number.result (slots_in c.take-item.new.self c.clear.new.self.items) c.number.ensures (slots-taken c.self.invariant c.take-item.new.self c.args.id c.slot-slot.result (slot-led c.place_of-place.ensures ∙ ap Some (sym c.slot-slot.ensures)) c.take-item.ensures.kept c.number.result c.number.ensures c.clear.new.self.items c.clear.ensures.items));
   placed = placed-taken c.self.invariant c.take-item.new.self c.args.id c.slot-slot.result (slot-led c.place_of-place.ensures ∙ ap Some (sym c.slot-slot.ensures)) c.take-item.ensures.kept c.number.result c.number.ensures c.clear.new.self.items c.clear.ensures.items;
   blocked =
       subst (λ (a : Arena (Kept g.row.X.Denot)). AreBlocked (entry_at a) c.remove.new.self) (sym c.take-item.ensures.taken)
-      (blocked-taken c.sound.ensures c.self.inside.blocks c.self.invariant.blocked c.slot-slot.result
+      (blocked-taken c.state_law.ensures c.self.inside.blocks c.self.invariant.blocked c.slot-slot.result
       (parent-none c.self.invariant.tree c.self.view_is c.args.id c.slot-slot.result (slot-led c.place_of-place.ensures ∙ ap Some (sym c.slot-slot.ensures)) c.requires.no_parent)
       c.remove.new.self c.remove.ensures);
   tallied =
-      tallied-take c.self.inside.links.arena c.self.inside.tallies c.self.invariant.tallied c.sound.ensures c.slot-slot.result
+      tallied-take c.self.inside.links.arena c.self.inside.tallies c.self.invariant.tallied c.state_law.ensures c.slot-slot.result
       (parent-none c.self.invariant.tree c.self.view_is c.args.id c.slot-slot.result (slot-led c.place_of-place.ensures ∙ ap Some (sym c.slot-slot.ensures)) c.requires.no_parent)
       c.tallied_take.new.tallies (λ q. c.tallied_take.ensures q ∙ ap (λ n. tally_but n None c.self.inside.tallies q) (sym c.slot-slot.ensures)) c.take-item.new.self.arena c.take-item.ensures.taken;
 }
 
 pub returns : goal.returns
-returns g c = take-shown c.self.invariant.tree c.self.view_is c.sound.ensures c.args.id c.slot-slot.result (slot-led c.place_of-place.ensures ∙ ap Some (sym c.slot-slot.ensures)) c.requires.no_parent c.requires.no_child c.take-item.new.self.arena c.take-item.ensures.taken c.sound-2.ensures c.number.result (slots_in c.take-item.new.self c.clear.new.self.items) c.number.ensures (slots-taken c.self.invariant c.take-item.new.self c.args.id c.slot-slot.result (slot-led c.place_of-place.ensures ∙ ap Some (sym c.slot-slot.ensures)) c.take-item.ensures.kept c.number.result c.number.ensures c.clear.new.self.items c.clear.ensures.items)
+returns g c = take-shown c.self.invariant.tree c.self.view_is c.state_law.ensures c.args.id c.slot-slot.result (slot-led c.place_of-place.ensures ∙ ap Some (sym c.slot-slot.ensures)) c.requires.no_parent c.requires.no_child c.take-item.new.self.arena c.take-item.ensures.taken c.state_law-2.ensures c.number.result (slots_in c.take-item.new.self c.clear.new.self.items) c.number.ensures (slots-taken c.self.invariant c.take-item.new.self c.args.id c.slot-slot.result (slot-led c.place_of-place.ensures ∙ ap Some (sym c.slot-slot.ensures)) c.take-item.ensures.kept c.number.result c.number.ensures c.clear.new.self.items c.clear.ensures.items)

@@ -8,17 +8,17 @@ use Rattle.dom_tree.proofs.tree.Tree.take_root.Goals as goal
 pub take_alone-requires-clause-no_parent : goal.take_alone-requires-clause-no_parent
 take_alone-requires-clause-no_parent g c =
     ap (λ (q : Grove g.row.X.Denot). parent_of q.forest c.args.id) c.move_to.ensures
-    ∙ parent-set c.args.self.now.forest c.sound.ensures.once c.args.id c.args.id c.args.id ∙ c.requires.no_parent
+    ∙ parent-set c.args.self.now.forest c.state_law.ensures.once c.args.id c.args.id c.args.id ∙ c.requires.no_parent
 
 pub take_alone-requires-clause-no_child : goal.take_alone-requires-clause-no_child
 take_alone-requires-clause-no_child g c =
     ap (λ (q : Grove g.row.X.Denot). children_of q.forest c.args.id) c.move_to.ensures
-    ∙ children-set c.args.self.now.forest c.sound.ensures.once c.args.id c.args.id c.args.id ∙ c.requires.no_child
+    ∙ children-set c.args.self.now.forest c.state_law.ensures.once c.args.id c.args.id c.args.id ∙ c.requires.no_child
 
 pub take_alone-requires-clause-itself : goal.take_alone-requires-clause-itself
 take_alone-requires-clause-itself g c =
     ap (λ (q : Grove g.row.X.Denot). document_in q.forest c.args.id) c.move_to.ensures
-    ∙ documents-set c.args.self.now.forest c.sound.ensures.once c.args.id c.args.id c.requires.held
+    ∙ documents-set c.args.self.now.forest c.state_law.ensures.once c.args.id c.args.id c.requires.held
 
 pub returns : goal.returns
 returns g c =

@@ -2,7 +2,7 @@
 use Rattle.std.proofs.Common.{subst}
 use Rattle.dom_observe.specs.{Roster.queues_by, Sound.AreSoundWatchers}
 use Rattle.dom_observe.proofs.IsSoundLemmas.{seen-sound}
-use Rattle.dom_observe.proofs.observers.Observers.sound.Goals as goal
+use Rattle.dom_observe.proofs.observers.Observers.state_law.Goals as goal
 
 pub returns : goal.returns
 returns c =

@@ -2,7 +2,7 @@ use Rattle.std.proofs.Common.{◌≡◌, true, length, ap, subst, arith}
 use Rattle.dom_model.specs.Definitions.{among}
 use Rattle.dom_chains.specs.{Chained.items_of, Chained.links_of, Keyed.covers, Keyed.keys_of}
 use Rattle.dom_chains.proofs.{TableStepLemmas.nexts-length, HasKeyLemmas.among-covered}
-use Rattle.dom_chains.proofs.chains.Chains.sound.Goals as goal
+use Rattle.dom_chains.proofs.chains.Chains.state_law.Goals as goal
 
 pub returns-clause-covered : goal.returns-clause-covered
 returns-clause-covered g c key =
