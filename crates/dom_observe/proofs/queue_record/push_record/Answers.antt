@@ -12,7 +12,7 @@ returns-clause-ok c =
     on_ok c.push.result c.push.ensures.ok (λ pushed p.
     let roster = c.args.roster.now in
     let kept = c.get_mut-kept.result.now in
-    let at = queue_record-there roster c.new.result kept c.get_mut-kept.ensures.value in
+    let at = queue-there roster c.new.result kept c.get_mut-kept.ensures.value in
     ap (λ qs. records_at qs p) (queues-set roster c.new.result (record kept { queue = c.push.new.self }))
     ∙ records-pushed (queues_by roster) c.new.result kept.queue at c.push.new.self c.args.told pushed p
     ∙ ap (λ i. if i == p then records_at (queues_by roster) p ++ c.args.told ∷ [] else records_at (queues_by roster) p) c.new.ensures)

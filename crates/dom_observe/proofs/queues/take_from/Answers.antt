@@ -9,7 +9,7 @@ get_mut-kept-requires c = sym (has-kept c.args.roster.now c.args.observer) ∙ c
 
 pub returns-clause-records : goal.returns-clause-records
 returns-clause-records c =
-    c.take.ensures.records ∙ sym (ap (λ q. unwrap_or q []) (queue_record-there c.args.roster.now c.args.observer c.get_mut-kept.result.now c.get_mut-kept.ensures.value))
+    c.take.ensures.records ∙ sym (ap (λ q. unwrap_or q []) (queue-there c.args.roster.now c.args.observer c.get_mut-kept.result.now c.get_mut-kept.ensures.value))
 
 pub returns-clause-emptied : goal.returns-clause-emptied
 returns-clause-emptied c =

@@ -5,4 +5,4 @@ pub loop-slot-smaller : goal.loop-slot-smaller
 loop-slot-smaller g c = rw c.set.ensures (fewer-wait c.loop-slot.whereabouts c.in-Some.slot _ c.in-Some.ensures.within c.in-Some.ensures.some)
 
 pub returns : goal.returns
-returns g c = caught_up-end g.T.Standing.node_of c.args.items.now c.loop-slot.whereabouts c.loop-slot.invariant c.in_default.ensures.none
+returns g c = caught_up-end g.T.Positioned.node_of c.args.items.now c.loop-slot.whereabouts c.loop-slot.invariant c.in_default.ensures.none

@@ -7,5 +7,5 @@ use Rattle.dom_traverse.proofs.located.refer.Given as goal
 
 abbrev pub invariant-loop-item : goal.invariant-loop-item
 invariant-loop-item g l =
-    list_any (λ m. among m (inclusive_descendants l.tree.forest l.top)) (flat_map (named_by g.T.Standing.root_of g.T.Standing.node_of) l.items)
-    ≡ list_any (λ m. among m (inclusive_descendants l.tree.forest l.top)) (flat_map (named_by g.T.Standing.root_of g.T.Standing.node_of) (drop l.item-index l.items))
+    list_any (λ m. among m (inclusive_descendants l.tree.forest l.top)) (flat_map (named_by g.T.Positioned.root_of g.T.Positioned.node_of) l.items)
+    ≡ list_any (λ m. among m (inclusive_descendants l.tree.forest l.top)) (flat_map (named_by g.T.Positioned.root_of g.T.Positioned.node_of) (drop l.item-index l.items))

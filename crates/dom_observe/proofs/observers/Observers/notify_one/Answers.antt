@@ -76,11 +76,11 @@ returns-clause-told c = λ x w.
 pub returns-clause-records : goal.returns-clause-records
 returns-clause-records c = λ x w.
     let shown = subst (λ (o : Watchers). Watches o x) (sym c.self.view_is) w in
-    c.take.ensures.records ∙ sym (ap (λ q. unwrap_or q []) (queue_record-there c.self.inside.roster c.args.observer c.get_mut-kept.result.now c.get_mut-kept.ensures.value)) ∙ shown.queues c.args.observer
+    c.take.ensures.records ∙ sym (ap (λ q. unwrap_or q []) (queue-there c.self.inside.roster c.args.observer c.get_mut-kept.result.now c.get_mut-kept.ensures.value)) ∙ shown.queues c.args.observer
 
 pub returns-clause-own : goal.returns-clause-own
 returns-clause-own c =
-    c.take.ensures.records ∙ sym (ap (λ q. unwrap_or q []) (queue_record-there c.self.inside.roster c.args.observer c.get_mut-kept.result.now c.get_mut-kept.ensures.value))
+    c.take.ensures.records ∙ sym (ap (λ q. unwrap_or q []) (queue-there c.self.inside.roster c.args.observer c.get_mut-kept.result.now c.get_mut-kept.ensures.value))
     ∙ ap (λ (o : Watchers). records_at o.queues c.args.observer) c.self.view_is
 
 pub returns-clause-queues : goal.returns-clause-queues

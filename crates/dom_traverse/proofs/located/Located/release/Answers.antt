@@ -4,11 +4,11 @@ use Rattle.dom_traverse.proofs.located.Located.release.Goals as goal
 
 pub unname-requires : goal.unname-requires
 unname-requires g c =
-    root-counted g.T.Standing.root_of g.T.Standing.node_of c.self.inside.items.items c.self.inside.roots c.self.inside.whereabouts c.self.invariant c.release-slot.result.0 c.release-slot.result.1
+    root-counted g.T.Positioned.root_of g.T.Positioned.node_of c.self.inside.items.items c.self.inside.roots c.self.inside.whereabouts c.self.invariant c.release-slot.result.0 c.release-slot.result.1
     c.release-slot.ensures.item c.root.result c.root.ensures
 
 pub invariant_of-self : goal.invariant_of-self
 invariant_of-self g c =
-    found-fewer g.T.Standing.root_of g.T.Standing.node_of c.self.inside.items.items c.self.inside.roots c.self.inside.whereabouts c.self.invariant c.release-slot.result.0 c.release-slot.result.1
+    found-fewer g.T.Positioned.root_of g.T.Positioned.node_of c.self.inside.items.items c.self.inside.roots c.self.inside.whereabouts c.self.invariant c.release-slot.result.0 c.release-slot.result.1
     c.release-slot.ensures.item c.root.result c.root.ensures
     c.release-slot.new.self.items c.unname.new.roots c.swap_remove.new.self c.unname.ensures c.swap_remove.ensures c.release-slot.ensures.items
