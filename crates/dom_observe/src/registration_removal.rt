@@ -197,7 +197,7 @@ impl Registrations {
         requires owned { (k : ℕ) → among k keys.old.items ≡ passes_for observer (at self.old k) }
         requires ordered { ByOrigin (at self.old) keys.old.items }
         ensures left { (k : ℕ) → at self.new k ≡ (if among k keys.old.items
-            then unless_ended (Ended.From observer node) (at self.old k) else at self.old k) }
+            then unless_ended (EndedRegistrations.From observer node) (at self.old k) else at self.old k) }
         ensures swept { Swept self.old self.new }
         ensures keys { keys.new.items ≡ filter (is_live (at self.new)) keys.old.items }
     {
@@ -218,7 +218,7 @@ impl Registrations {
             ≡ lasts_for observer (at self.old k) }
         requires passing { (k : ℕ) → among k kept.old.passing.items
             ≡ passes_for observer (at self.old k) }
-        ensures left { (k : ℕ) → at self.new k ≡ unless_ended (Ended.Of observer) (at self.old k) }
+        ensures left { (k : ℕ) → at self.new k ≡ unless_ended (EndedRegistrations.Of observer) (at self.old k) }
         ensures swept { Swept self.old self.new }
         ensures lasting { kept.new.lasting.items ≡ [] }
         ensures passing { kept.new.passing.items ≡ [] }
@@ -243,7 +243,7 @@ impl Registrations {
         requires there { AllThere (is_there roster.now) fleeting.now.keys }
         requires owned { Owned passes_for (at self.old) (passing_by roster.now) }
         requires all { HaveNone fleeting.now.keys (passing_by roster.now) }
-        ensures left { (k : ℕ) → at self.new k ≡ unless_ended Ended.Transient (at self.old k) }
+        ensures left { (k : ℕ) → at self.new k ≡ unless_ended EndedRegistrations.Transient (at self.old k) }
         ensures swept { Swept self.old self.new }
     {
         self.state_law();
@@ -265,7 +265,7 @@ impl Registrations {
         requires there { AllThere (is_there roster.old) fleeting.now.keys }
         requires owned { Owned passes_for (at self.old) (passing_by roster.old) }
         requires all { HaveNone fleeting.now.keys (passing_by roster.old) }
-        ensures left { (k : ℕ) → at self.new k ≡ unless_ended Ended.Transient (at self.old k) }
+        ensures left { (k : ℕ) → at self.new k ≡ unless_ended EndedRegistrations.Transient (at self.old k) }
         ensures swept { Swept self.old self.new }
         ensures none { (o : ℕ) → passing_at roster.new o ≡ [] }
         ensures owned { Owned passes_for (at self.new) (passing_by roster.new) }
