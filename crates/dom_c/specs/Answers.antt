@@ -37,9 +37,9 @@ Ends true step old new status = status ≡ out_of_memory
 Ends false step old new status = (old.ended ≡ false) × (Goes step (option_map reply_view new.reply) old new status ⊎ IsSpared old new status)
 
 -- whether an open session goes on, also if memory is refused
-abbrev pub spares : Result Command ℕ → Bool
-spares (Ok c) = goes_on c
-spares (Err malformed) = true
+abbrev pub leaves_open : Result Command ℕ → Bool
+leaves_open (Ok c) = goes_on c
+leaves_open (Err malformed) = true
 
 -- the step of a command, or the status of arguments that make none
 abbrev pub step_for : HandleState → Result Command ℕ → Result (World → Step) ℕ
@@ -48,7 +48,7 @@ step_for old (Err malformed) = Err malformed
 
 pub record StepsState (c : Result Command ℕ) (old new : HandleState) (status : ℕ) : Type 0 where
   pub ends : Ends new.ended (step_for old c) old new status
-  pub goes_on : spares c ≡ true → old.session.ended ≡ false → new.ended ≡ old.ended
+  pub goes_on : leaves_open c ≡ true → old.session.ended ≡ false → new.ended ≡ old.ended
   pub is_open : old.session.ended ≡ false → new.ended ≡ false → new.session.ended ≡ false
   pub bounds : new.session.bounds ≡ old.session.bounds
   pub limit : new.limit ≡ old.limit

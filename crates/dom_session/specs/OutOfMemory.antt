@@ -18,15 +18,15 @@ pub record IsLeft (old new : SessionView) : Type 0 where
   pub had_ended : old.ended ≡ true → new ≡ old
 
 -- a world as it was, but that live ranges may have room for more nodes
-abbrev pub with_room : World → World → World
-with_room old new = record old { ranges = record old.ranges { covered = new.ranges.covered } }
+abbrev pub with_covered : World → World → World
+with_covered old new = record old { ranges = record old.ranges { covered = new.ranges.covered } }
 
 -- Nothing has changed but that room, which no reply tells of: the world stands for all that it stood for.
 pub record IsAsItWas (old new : World) : Type 0 where
-  pub is : new ≡ with_room old new
+  pub is : new ≡ with_covered old new
   pub stands : (w : model.World) → Shows old w → Shows new w
 
 -- the same of a session, which is open if it was open
 pub record IsAsBefore (old new : SessionView) : Type 0 where
-  pub is : new ≡ record old { world = with_room old.world new.world }
+  pub is : new ≡ record old { world = with_covered old.world new.world }
   pub stands : (w : model.World) → StandsFor old w → StandsFor new w
