@@ -30,7 +30,7 @@ const IMPLEMENTATION_SPECIFIC: u16 = 32;
 /// Returns the position of the other relative to the node: the bits of compareDocumentPosition, 0 for the node itself.
 ///
 /// Of two trees, the one whose root has the smaller number comes first.
-#[tactic(auto, using(crate::proofs::Positions::ahead_place))]
+#[tactic(auto, using(crate::proofs::PositionLemmas::ahead_place))]
 pub fn position(tree: &Tree<Content>, node: NodeId, other: NodeId) -> u16
     requires node_held { HasNode tree.now.forest node }
     requires other_held { HasNode tree.now.forest other }
