@@ -117,9 +117,9 @@ export class Session {
   namespaces = [];
   hasMarkedAttributes = false;
   hasPrefixedAttributes = false;
-  /** The elements of each id (see ids.js), by number if there is one alone; and whether a line was answered, after which they are not known. */
+  /** The elements of each id (see ids.js), by number if there is one alone; and whether these are all, which is not known after a line. */
   ids = new Map();
-  hasSpoken = false;
+  knowsIds = true;
   /** Whether an element was ever given contents of its own, as a template of HTML is. */
   hasContents = false;
   /** The observers by the number that the core has, held weakly, and whether any was ever asked to watch. */
@@ -160,7 +160,7 @@ export class Session {
     if (!(bytes instanceof Uint8Array)) throw new Refusal(native.HP_TYPE_ERROR, `expected a line as a string or a Uint8Array, not ${typeof bytes}`);
     const status = native.hp_line(this.index, bytes);
     if (status === STUCK) check(status);
-    this.hasSpoken = true;
+    this.knowsIds = false;
     Session.forgetRecent();
     this.renewed();
     this.attributes++;
@@ -380,17 +380,17 @@ export class Session {
     const root = native.hp_root(this.index, number) === OK ? out[0] : NONE;
     this.#leaving.delete(number);
     if (root === NONE || root === ROOT_DOCUMENT || this.#known.get(root)?.deref() !== undefined) return;
-    this.forgetIds(root);
-    if (native.hp_discard(this.index, root) === OK) this.documents.delete(root);
-    // One number stands for all of a tree that is in use.
-    else this.#leaving.add(root);
+    const ids = this.ids.size > 0 ? Session.idsBelow(this, root) : [];
+    if (native.hp_discard(this.index, root) === OK) {
+      Session.forgetIds(this, ids);
+      this.documents.delete(root);
+    } else {
+      // One number stands for all of a tree that is in use. It may be found again, so its ids stay.
+      this.#leaving.add(root);
+    }
   }
 
-  /** Forgets the ids of a tree that is about to be discarded. */
-  forgetIds(root) {
-    if (this.ids.size > 0) Session.forgetIds(this, root);
-  }
-
-  /** How ids are forgotten (ids.js says it). */
+  /** How the ids of a tree are read, and forgotten (ids.js says it). */
+  static idsBelow;
   static forgetIds;
 }

@@ -1,15 +1,21 @@
 /** Elements by their ids: which elements of a session have which id, kept by what changes tell. */
-import { native, OK, textFrom, words, out } from "./core.js";
-import { Session } from "./core.js";
+import { check, native, OK, out, Session, textFrom, words } from "./core.js";
+import { attributeName } from "./names.js";
 import { itsOf, numberOf, recall, sessionOf, wrap } from "./wrappers.js";
 
 const ID = "id";
 
-/** The elements of a tree that have an id, and their ids. */
+/** Asks the module for the elements of a tree that have an attribute; returns the status. */
+const askFor = (session, root, name) => native.holders(session.index, root, attributeName(session, name).number);
+
+/** Returns the elements of a tree that have an attribute, each with its value. */
 export function holdersOf(session, root, name) {
-  const status = native.holders(session.index, root, native.nameNumber(name));
+  check(askFor(session, root, name));
+  return holdersRead();
+}
+
+function holdersRead() {
   const found = [];
-  if (status !== OK) return found;
   for (let at = out[0] >>> 2, end = at + out[1]; at < end; ) {
     const length = words[at + 1];
     found.push([words[at], textFrom(4 * (at + 2), length)]);
@@ -103,14 +109,18 @@ function forget(session, number, id) {
   if (only !== null) session.ids.set(id, only);
 }
 
-/** Notes the ids of a tree that has just been made. */
+/** Notes the ids of a tree that has just been made. If out of memory, ids are read from the trees from then on. */
 export function noteIdsBelow(session, root) {
   if (session.ids.size === 0) return;
-  for (const [number, id] of holdersOf(session, root, ID)) note(session, number, null, id);
+  session.knowsIds &&= askFor(session, root, ID) === OK;
+  if (session.knowsIds) for (const [number, id] of holdersRead()) note(session, number, null, id);
 }
 
-Session.forgetIds = (session, root) => {
-  for (const [number, id] of holdersOf(session, root, ID)) forget(session, number, id);
+// (if out of memory, the ids stay: they find nothing once the tree is gone)
+Session.idsBelow = (session, root) => (askFor(session, root, ID) === OK ? holdersRead() : []);
+
+Session.forgetIds = (session, held) => {
+  for (const [number, id] of held) forget(session, number, id);
 };
 
 /** Which of two nodes of a tree comes first. */
@@ -130,13 +140,13 @@ export function onlyBelow(root, id) {
 export function elementById(root, id) {
   const its = itsOf(root);
   const { session } = its;
-  if (session.hasSpoken) return readById(root, id);
+  if (!session.knowsIds) return readById(root, id);
   const only = onlyBelow(its, id);
   const first = only === undefined ? session.ids.get(id).firstBelow(its) : only;
   return first && first.object;
 }
 
-/** The same where lines were answered. */
+/** The same if the session does not know its ids. */
 function readById(root, id) {
   const session = sessionOf(root);
   const found = id === "" ? undefined : holdersOf(session, numberOf(root), ID).find(([, its]) => its === id);

@@ -2,6 +2,7 @@
 import assert from "node:assert/strict";
 import test from "node:test";
 
+import { native } from "../lib/core.js";
 import { createDocument, createWindow, DOMException, memory, NodeFilter, serialize, Session, XMLDocument } from "../lib/index.js";
 
 const HTML = "http://www.w3.org/1999/xhtml";
@@ -234,6 +235,23 @@ test("a session that has ended is read and serialized as before, and no other en
   assert.equal(serialize(other.document.createElement("p")), "<p></p>");
 });
 
+test("ids of copies are found, also if out of memory when they were made", () => {
+  const { document, root } = listOf(2);
+  root.id = "list";
+  const { holders } = native;
+  let copy;
+  native.holders = () => native.HP_OUT_OF_MEMORY;
+  try {
+    copy = root.cloneNode(true);
+  } finally {
+    native.holders = holders;
+  }
+  root.replaceWith(copy);
+  assert.equal(document.getElementById("list"), copy);
+  copy.id = "other";
+  assert.deepEqual(["list", "other"].map((id) => document.getElementById(id)), [null, copy]);
+});
+
 test("memory is reserved ahead, or refused without the end of a session", () => {
   const document = createDocument();
   const root = document.appendChild(document.createElement("p"));
@@ -250,4 +268,19 @@ test("memory is reserved ahead, or refused without the end of a session", () => 
     memory.limit(0);
   }
   assert.throws(() => memory.reserve(-1), RangeError);
+});
+
+test("a list of classes is refused if out of memory, and is read later", () => {
+  const { document, root, items } = listOf(3000);
+  const name = "x".repeat(3000);
+  for (const it of items) it.className = name;
+  const list = document.getElementsByClassName(name);
+  memory.limit(memory.size);
+  try {
+    assert.throws(() => list.item(0), RangeError);
+  } finally {
+    memory.limit(0);
+  }
+  assert.equal(list.length, items.length);
+  assert.equal(list.item(0), root.firstChild);
 });

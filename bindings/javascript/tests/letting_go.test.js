@@ -119,6 +119,57 @@ test("a tree that is in use goes once it is in use no more", async () => {
   assert.ok(!isThere(session, number));
 });
 
+/** Returns what alone leads to a tree when its objects are gone, and a function that returns the root's new object. */
+const LEADING = {
+  "a range that was moved": (document, root) => {
+    const range = document.createRange();
+    range.selectNodeContents(root.appendChild(document.createTextNode("t")));
+    root.lastChild.remove();
+    return { held: range, rootOf: () => range.startContainer };
+  },
+  "an observer": (document, root, session) => {
+    const observer = new MutationObserver(() => undefined);
+    observer.observe(root, { childList: true });
+    const number = session.number(root);
+    return { held: observer, rootOf: () => session.node(number) };
+  },
+};
+
+for (const [name, leading] of Object.entries(LEADING)) {
+  test(`ids of a tree are found when only ${name} has led to it`, async () => {
+    const session = new Session();
+    const { document } = session;
+    const body = document.appendChild(document.createElement("body"));
+    const { held, rootOf } = (() => {
+      const root = document.createElement("p");
+      root.id = "root";
+      for (const id of ["twice", "twice", "once"]) root.appendChild(document.createElement("b")).id = id;
+      return leading(document, root, session);
+    })();
+    await collect();
+    const root = body.appendChild(rootOf());
+    const [first, , once] = root.children;
+    assert.deepEqual(["root", "twice", "once"].map((id) => document.getElementById(id)), [root, first, once]);
+    const copy = body.insertBefore(root.cloneNode(true), root);
+    assert.equal(document.getElementById("once"), copy.lastChild);
+    first.remove();
+    root.remove();
+    assert.deepEqual(["twice", "once"].map((id) => document.getElementById(id)), [copy.firstChild, copy.lastChild]);
+    assert.ok(held);
+  });
+}
+
+test("ids of a tree that is discarded are forgotten", async () => {
+  const document = createDocument();
+  const body = document.appendChild(document.createElement("body"));
+  const other = body.appendChild(document.createElement("p"));
+  for (const id of ["one", "two"]) document.createElement("p").appendChild(document.createElement("b")).id = id;
+  await collect();
+  assert.deepEqual(["one", "two"].map((id) => document.getElementById(id)), [null, null]);
+  other.id = "one";
+  assert.equal(document.getElementById("one"), other);
+});
+
 /** What can be made over a node, one of each kind. */
 const OVER = {
   NodeIterator: (node) => node.ownerDocument.createNodeIterator(node),

@@ -96,7 +96,7 @@ function byList(node, { handle }) {
 /** What the object of the only element of an id knows in the tree of a node: null if there is none, undefined if there are more, or if that is not known. */
 function byId(node, { handle }) {
   if (handle?.type !== "id") return undefined;
-  return itsOf(node).session.hasSpoken ? undefined : onlyBelow(itsOf(rootOf(node)), handle.name);
+  return itsOf(node).session.knowsIds ? onlyBelow(itsOf(rootOf(node)), handle.name) : undefined;
 }
 
 function isBelow(its, node) {

@@ -3,6 +3,7 @@ import assert from "node:assert/strict";
 import { spawnSync } from "node:child_process";
 import { fileURLToPath } from "node:url";
 import test from "node:test";
+import { setImmediate as turn } from "node:timers/promises";
 
 import { createPage } from "../../lib/page/index.js";
 import { NEEDED, skipWithout } from "./players.js";
@@ -19,6 +20,27 @@ test("languages are found by lists, strings and extended ranges (Selectors 4, se
   const { document } = createPage("<section lang=de-Latn-CH><p>1</p><p lang=''>2</p></section><p lang=en>3</p>");
   const count = (text) => document.querySelectorAll(text).length;
   assert.deepEqual(["p:lang('*-CH')", "p:lang(de-ch)", "p:lang(fr, en)", "p:lang('')", "p:lang(de-DE)"].map(count), [1, 1, 1, 1, 0]);
+});
+
+const GC = skip || (globalThis.gc ? false : "node runs without --expose-gc");
+
+test("an id is found in a tree to which only a range has led", { skip: GC }, async () => {
+  const { document } = createPage("");
+  const range = document.createRange();
+  (() => {
+    const root = document.createElement("div");
+    root.innerHTML = "<b id=x></b>text";
+    range.selectNodeContents(root.lastChild);
+    root.lastChild.remove();
+  })();
+  for (let time = 0; time < 4; time++) {
+    globalThis.gc();
+    await turn();
+    await turn();
+  }
+  const root = document.body.appendChild(range.startContainer);
+  assert.deepEqual([...document.querySelectorAll("#x")], [root.firstChild]);
+  assert.equal(document.querySelector("div > #x"), root.firstChild);
 });
 
 test("names, ids and classes need no library; another selector names the package that it needs", { skip: skipWithout("parse5") }, () => {
