@@ -171,12 +171,13 @@ function indexOf(key) {
   return index !== PAST && String(index) === key ? index : -1;
 }
 
-/** What a list does where its properties are indices. */
+/** What a list of a realm does where its properties are indices. */
 class Indexed {
   #its;
 
-  constructor(its) {
+  constructor(its, realm) {
     this.#its = its;
+    this.realm = realm;
   }
 
   get(target, key, receiver) {
@@ -239,8 +240,8 @@ function namedIn(its, name) {
 class Named extends Indexed {
   #its;
 
-  constructor(its) {
-    super(its);
+  constructor(its, realm) {
+    super(its, realm);
     this.#its = its;
   }
 
@@ -284,11 +285,28 @@ class Named extends Indexed {
   }
 }
 
+/** Has the traps of lists throw the exceptions of their realms. */
+function guard({ prototype }) {
+  for (const name of Object.getOwnPropertyNames(prototype).filter((it) => it !== "constructor")) {
+    const trap = prototype[name];
+    prototype[name] = function (...given) {
+      try {
+        return trap.apply(this, given);
+      } catch (fault) {
+        throw this.realm.thrown(fault);
+      }
+    };
+  }
+}
+
+guard(Indexed);
+guard(Named);
+
 const nodeLists = new WeakMap();
 const collections = new WeakMap();
 
 function listed(realm, name, known, its, Handler = Indexed) {
-  const made = new Proxy(Object.create(realm.interfaces[name].prototype), new Handler(its));
+  const made = new Proxy(Object.create(realm.interfaces[name].prototype), new Handler(its, realm));
   known.set(made, its);
   return made;
 }
