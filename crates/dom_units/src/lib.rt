@@ -108,6 +108,15 @@ impl Units {
         outcome
     }
 
+    /// Reserves room for `more` units. A splice that adds at most so many then takes no memory.
+    ///
+    /// A later splice shrinks the buffer if it still fills less than half of it.
+    pub fn reserve(&mut self, more: usize) -> Result<(), AllocError>
+        ensures { self.new ≡ self.old }
+    {
+        self.units.reserve(more)
+    }
+
     /// Returns whether the units are well-formed: each surrogate has its partner.
     pub fn is_well_formed(&self) -> bool
         ensures { result ≡ is_well_formed_units self.now }
