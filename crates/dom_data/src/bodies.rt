@@ -76,7 +76,7 @@ fn reserve_in(
     content.reserve(alloc, more)
 }
 
-/// Reserves room for `more` units of a node's data. A replacement by which the data grows no further then takes no memory for it.
+/// Reserves room for `more` units of a node's data. A replacement that grows the data by at most `more` units then takes no memory for it.
 pub fn reserve_data(
     world: &mut World,
     alloc: Global,

@@ -288,7 +288,7 @@ impl Content {
         outcome
     }
 
-    /// Reserves room for `more` units of data. A splice by which the data grows no further then takes no memory.
+    /// Reserves room for `more` units of data. A splice that grows the data by at most `more` units then takes no memory.
     ///
     /// Content with attributes gets no room: no node has both, and [`Content::splice`] copies such content.
     pub fn reserve(&mut self, alloc: Global, more: usize) -> Result<(), AllocError>

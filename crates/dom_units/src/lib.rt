@@ -108,9 +108,9 @@ impl Units {
         outcome
     }
 
-    /// Reserves room for `more` units. A splice that adds at most so many then takes no memory.
+    /// Reserves room for `more` units. A splice that grows the text by at most `more` units then takes no memory.
     ///
-    /// A later splice shrinks the buffer if it still fills less than half of it.
+    /// That splice shrinks the buffer if the text then fills less than half of it.
     pub fn reserve(&mut self, more: usize) -> Result<(), AllocError>
         ensures { self.new ≡ self.old }
     {
