@@ -175,7 +175,7 @@ static uint32_t build_observed(void)
     return observer;
 }
 
-/* How many records the observer has, all of which it takes. */
+/* Takes the observer's records, and returns how many there were. */
 static size_t taken(uint32_t observer)
 {
     size_t count = NONE;
