@@ -66,6 +66,8 @@ def kit():
     if not hasattr(rt, "Kept"):
         # (a kit without a store has no kept work of a crate, with which the tries of its edits could begin)
         rt.work_for = lambda crate: None
+        # (a cut library has no stamp, and this kit would sum all files along each path below a crate for it: minutes)
+        rt.Crate.stamp = lambda crate: ""
     return rt
 
 
