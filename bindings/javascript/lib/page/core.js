@@ -6,7 +6,7 @@ import { Refusal } from "../core.js";
 import { documentIs, isNode, kindOf, numberOf, realmOf, sessionOf } from "../wrappers.js";
 
 export { attributesKept, hasWord, isBlank, namesKept, valueKept, wordsKept } from "../attributes.js";
-export { DOCUMENT, ELEMENT, TEXT } from "../core.js";
+export { ATTRIBUTE, DOCUMENT, ELEMENT, TEXT } from "../core.js";
 export {
   Element,
   getElementsByClassName as elementsOfClass,
