@@ -328,9 +328,9 @@ function constructorOf(realm, table) {
 export function makeInterface(realm, table, Base) {
   const made = constructorOf(realm, table);
   const Maker = class extends Base {
-    // (a constructor that is written out takes its arguments without a list of them)
-    constructor(its, object) {
-      super(its, object);
+    // (a constructor that is written out takes its argument without a list of them)
+    constructor(its) {
+      super(its);
     }
   };
   realm.makers[table.name] = Base.makerOf(Maker);

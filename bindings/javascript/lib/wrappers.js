@@ -71,21 +71,21 @@ const endsOf = (kind) => (mayHaveChildren(kind) ? undefined : null);
 
 /** The state of a node's object. It has other nodes by their states. */
 class NodeIs {
-  constructor(session, number, kind, realm) {
+  constructor(session, number, kind, realm, name, end) {
     // (the fields that are read most are first, and so together in memory)
     this.session = session;
     this.kind = kind;
     // What an element's name says (see names.js), and its attributes (see attributes.js); of a text its data, as long as the links hold.
-    this.name = null;
+    this.name = name;
     this.values = null;
     this.kept = null;
     this.object = null;
     // The links to its neighbours, and the count of the session for which they are valid: none is known yet.
     this.stamp = session.links;
-    this.first = endsOf(kind);
+    this.first = end;
     this.next = undefined;
     this.previous = undefined;
-    this.last = this.first;
+    this.last = end;
     // The parent, or the Document of a root.
     this.above = null;
     // Whether it is a child, whether the session finds it by its number, and whether it holds it until the program waits: a bit each.
@@ -98,7 +98,6 @@ class NodeIs {
     this.ahead = null;
     this.table = null;
     session.marks.add(number);
-    remember(this);
   }
 
   // ---- The wrapped children of a parent.
@@ -171,15 +170,17 @@ class NodeIs {
 
   /** Returns the state of a child by its number, with valid links; makes its wrapper by its kind, name and count of children if there is none. */
   adopted(number, kind, name, count) {
-    const { session } = this;
+    const { session, realm } = this;
     const found = session.marks.has(number) ? this.child(number) : undefined;
     if (found !== undefined) {
       found.fresh();
       return found;
     }
-    const made = make(session, number, kind, this.realm, kind === ELEMENT ? elementByNumber(session, name) : null);
+    const its = kind === ELEMENT ? elementByNumber(session, name) : null;
+    // (the cache of nodes gets those alone that have several children: a write into it takes long, and the others are found from these)
+    const made = new NodeIs(session, number, kind, realm, its, count === 0 ? null : endsOf(kind));
+    makerOf(session, number, kind, realm, its).make(made);
     made.enter(this);
-    if (count === 0 && mayHaveChildren(kind)) made.first = made.last = null;
     return made;
   }
 
@@ -465,6 +466,7 @@ const [NUMBER, KIND, DEPTH, NAME, COUNT, ROW] = [0, 1, 2, 3, 4, 5];
 /** Makes objects of rows in tree order, and links them; the first is answered. */
 function linked(parent, from, count, isWhole) {
   parent.fresh();
+  let first = null;
   let last = null;
   let level = -1;
   for (let at = from; at < from + count; at += ROW) {
@@ -476,15 +478,18 @@ function linked(parent, from, count, isWhole) {
     if (depth <= level) {
       last.next = its;
       its.previous = last;
+      if (last.previous === null) remember(above);
     } else if (depth > 0) {
       above.first = its;
       its.previous = null;
     }
+    first ??= its;
     last = its;
     level = depth;
   }
+  // (which has both forgotten once the program waits)
+  if (recent === null) recentNow();
   frontier = last;
-  const first = parent.child(words[from + NUMBER]);
   if (isWhole) up(last, level, -1);
   return first;
 }
@@ -510,14 +515,18 @@ function Given(object) {
   return object;
 }
 
-/** An object of a node, of whatever interface: a class of a realm stands between. An object that is given becomes that of the node. */
-export class Wrapper extends Given {
-  #its;
+/** The state of the node whose object is being made. */
+let coming = null;
 
-  constructor(its, object) {
+/**
+ * An object of a node, of whatever interface: a class of a realm stands between. An object that is given becomes that of the node. The field is set as it is
+ * made, which an engine does faster than a second write.
+ */
+export class Wrapper extends Given {
+  #its = coming;
+
+  constructor(object) {
     super(object);
-    this.#its = its;
-    its.object = this;
   }
 
   /** What makes objects of an interface, whose class stands between this one and its objects. */
@@ -541,7 +550,9 @@ class Maker {
   }
 
   make(its) {
-    return this.Bare === null ? new this.Between(its) : new Wrapper(its, new this.Bare());
+    coming = its;
+    its.object = this.Bare === null ? new this.Between() : new Wrapper(new this.Bare());
+    coming = null;
   }
 }
 
@@ -609,13 +620,12 @@ function makerOf(session, number, kind, realm, name) {
   return kind === DOCUMENT && documentIs(session, number).isXMLDocument ? realm.makers.XMLDocument : realm.kinds[kind];
 }
 
-/** A new wrapper of a node; what it knows is answered. */
+/** Makes an object of a node; returns its state. */
 function make(session, number, kind, realm, name = null) {
   const known = name === null && kind === ELEMENT && realm.elementMaker ? nameAsked(session, number) : name;
-  const maker = makerOf(session, number, kind, realm, known);
-  const its = new NodeIs(session, number, kind, realm);
-  its.name = known;
-  maker.make(its);
+  const its = new NodeIs(session, number, kind, realm, known, endsOf(kind));
+  makerOf(session, number, kind, realm, known).make(its);
+  remember(its);
   return its;
 }
 

@@ -119,6 +119,22 @@ test("a tree that is in use goes once it is in use no more", async () => {
   assert.ok(!isThere(session, number));
 });
 
+test("a tree goes after it was walked in a later turn", async () => {
+  const session = new Session();
+  const { document } = session;
+  let copy = (() => {
+    const root = document.createElement("p");
+    root.appendChild(document.createElement("b")).appendChild(document.createElement("i")).append("text");
+    return root.cloneNode(true);
+  })();
+  const number = session.number(copy);
+  await collect();
+  for (let node = copy; node; node = node.firstChild) assert.equal(node.nextSibling, null);
+  copy = null;
+  await collect(8);
+  assert.ok(!isThere(session, number));
+});
+
 /** Returns what alone leads to a tree when its objects are gone, and a function that returns the root's new object. */
 const LEADING = {
   "a range that was moved": (document, root) => {

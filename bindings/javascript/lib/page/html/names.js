@@ -24,9 +24,9 @@ class ControlsAre {
 
 /** The object of a form. */
 export class FormWrapper extends Wrapper {
-  constructor(its) {
+  constructor() {
     const controls = new ControlsAre();
-    super(its, new Proxy(Object.create(new.target.prototype), new Traps(controls)));
+    super(new Proxy(Object.create(new.target.prototype), new Traps(controls)));
     controls.form = this;
   }
 }
