@@ -26,6 +26,20 @@ export function describe(value) {
   return typeof value === "object" && value !== null ? "an object" : String(value);
 }
 
+/** Has the traps of a class of proxies' handlers throw the exceptions of the handler's realm. */
+export function guardTraps({ prototype }) {
+  for (const name of Object.getOwnPropertyNames(prototype).filter((it) => it !== "constructor")) {
+    const trap = prototype[name];
+    prototype[name] = function (...given) {
+      try {
+        return trap.apply(this, given);
+      } catch (fault) {
+        throw this.realm.thrown(fault);
+      }
+    };
+  }
+}
+
 /** Refuses a value where another kind is expected. */
 export const refuseOther = (expected, value) => refuseType(`expected ${expected}, not ${describe(value)}`);
 
