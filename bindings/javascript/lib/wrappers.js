@@ -72,25 +72,25 @@ const endsOf = (kind) => (mayHaveChildren(kind) ? undefined : null);
 /** The state of a node's object. It has other nodes by their states. */
 class NodeIs {
   constructor(session, number, kind, realm, name, end) {
-    // (the fields that are read most are first, and so together in memory)
+    // (the fields that a walk reads are first, and so together in memory)
     this.session = session;
-    this.kind = kind;
-    // What an element's name says (see names.js), and its attributes (see attributes.js); of a text its data, as long as the links hold.
-    this.name = name;
-    this.values = null;
-    this.kept = null;
-    this.object = null;
     // The links to its neighbours, and the count of the session for which they are valid: none is known yet.
     this.stamp = session.links;
     this.first = end;
     this.next = undefined;
-    this.previous = undefined;
-    this.last = end;
+    this.object = null;
     // The parent, or the Document of a root.
     this.above = null;
     // Whether it is a child, whether the session finds it by its number, and whether it holds it until the program waits: a bit each.
     this.state = 0;
+    this.kind = kind;
+    // What an element's name says (see names.js), and its attributes (see attributes.js); of a text its data, as long as the links hold.
+    this.name = name;
+    this.values = null;
+    this.previous = undefined;
+    this.last = end;
     this.number = number;
+    this.kept = null;
     this.realm = realm;
     // The wrapped children in no order: the first, for each the one behind it and the one ahead of it, and the table of many.
     this.below = null;
