@@ -30,9 +30,10 @@ export function describe(value) {
 export function guardTraps({ prototype }) {
   for (const name of Object.getOwnPropertyNames(prototype).filter((it) => it !== "constructor")) {
     const trap = prototype[name];
-    prototype[name] = function (...given) {
+    // (written out: a list of arguments takes longer, and no trap has more)
+    prototype[name] = function (target, key, value, receiver) {
       try {
-        return trap.apply(this, given);
+        return trap.call(this, target, key, value, receiver);
       } catch (fault) {
         throw this.realm.thrown(fault);
       }
