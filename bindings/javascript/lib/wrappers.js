@@ -23,12 +23,13 @@ const NEXT_AT = 4;
 const FIRST_AT = 5;
 const LAST_AT = 6;
 
-/** Up to this many wrapped children are searched one by one; if there are more, a table finds them by number. */
+/** Up to this many wrapped children are searched one by one. More are moved into a table by number when one is first looked for. */
 const FEW = 8;
 
 const CHILD = 1;
 const KNOWN = 2;
 const HELD = 4;
+const TABLED = 8;
 
 // ---- A cache of the nodes that were made or found last, by number. It is held until the program waits, and then until the next garbage collection.
 
@@ -81,7 +82,7 @@ class NodeIs {
     this.object = null;
     // The parent, or the Document of a root.
     this.above = null;
-    // Whether it is a child, whether the session finds it by its number, and whether it holds it until the program waits: a bit each.
+    // Whether it is a child, whether the session finds it by its number and holds it until the program waits, and whether it has a table: a bit each.
     this.state = 0;
     this.kind = kind;
     // What an element's name says (see names.js), and its attributes (see attributes.js); of a text its data, as long as the links hold.
@@ -92,11 +93,10 @@ class NodeIs {
     this.number = number;
     this.kept = null;
     this.realm = realm;
-    // The wrapped children in no order: the first, for each the one behind it and the one ahead of it, and the table of many.
+    // The wrapped children in no order: the first, and for each the one behind it and the one ahead of it; or a table of them.
     this.below = null;
     this.behind = null;
     this.ahead = null;
-    this.table = null;
     session.marks.add(number);
   }
 
@@ -104,22 +104,27 @@ class NodeIs {
 
   leave() {
     const { above, ahead, behind } = this;
-    if (ahead) ahead.behind = behind;
-    else above.below = behind;
-    if (behind) behind.ahead = ahead;
-    if (above.table !== null) above.table.delete(this.number);
+    if ((above.state & TABLED) !== 0) above.below.delete(this.number);
+    else if (ahead === null) above.below = behind;
+    if (ahead !== null) ahead.behind = behind;
+    if (behind !== null) behind.ahead = ahead;
     this.ahead = this.behind = this.above = null;
     this.state &= ~CHILD;
   }
 
   enter(parent) {
-    const first = parent.below;
-    this.behind = first;
-    if (first) first.ahead = this;
-    parent.below = this;
-    if (parent.table !== null) parent.table.set(this.number, this);
+    if ((parent.state & TABLED) !== 0) parent.below.set(this.number, this);
+    else this.chain(parent);
     this.above = parent;
     this.state |= CHILD;
+  }
+
+  /** Puts it ahead of the wrapped children of a parent that has no table. */
+  chain(parent) {
+    const first = parent.below;
+    this.behind = first;
+    if (first !== null) first.ahead = this;
+    parent.below = this;
   }
 
   place(parent) {
@@ -148,13 +153,22 @@ class NodeIs {
 
   /** Returns the state of a wrapped child by its number, or undefined. */
   child(number) {
-    if (this.table !== null) return this.table.get(number);
+    if ((this.state & TABLED) !== 0) return this.below.get(number);
     let it = this.below;
     for (let count = 0; it !== null && count < FEW; it = it.behind, count++) if (it.number === number) return it;
     if (it === null) return undefined;
-    this.table = new Map();
-    for (it = this.below; it !== null; it = it.behind) this.table.set(it.number, it);
-    return this.table.get(number);
+    this.tabulate();
+    return this.below.get(number);
+  }
+
+  tabulate() {
+    const table = new Map();
+    for (const it of this.wrapped()) {
+      table.set(it.number, it);
+      it.ahead = it.behind = null;
+    }
+    this.below = table;
+    this.state |= TABLED;
   }
 
   /** Returns the state of a child by its number; makes its wrapper if there is none. */
@@ -408,6 +422,7 @@ class NodeIs {
 
   /** The wrapped children. */
   wrapped() {
+    if ((this.state & TABLED) !== 0) return [...this.below.values()];
     const found = [];
     for (let it = this.below; it !== null; it = it.behind) found.push(it);
     return found;
@@ -780,7 +795,7 @@ export function detach(nodes, document) {
 /** A wrapper and all wrappers below it. */
 export function wrappedBelow(node) {
   const found = [node];
-  for (let at = 0; at < found.length; at++) for (let it = itsOf(found[at]).below; it !== null; it = it.behind) found.push(it.object);
+  for (const it of found) childrenOf(it).forEach((child) => found.push(child));
   return found;
 }
 
