@@ -272,20 +272,27 @@ test("sessions that nothing holds are closed", async () => {
   assert.ok(memory.held < before + 1e5, `${before} ${memory.held}`);
 });
 
-test("100,000 nodes with their objects take at most 120 MB of the process", () => {
+test("100,000 nodes with their objects take at most 120 MB of the process, and 420 bytes each", () => {
   const program = `
-    const { createDocument } = await import(${JSON.stringify(`${new URL("../lib/index.js", import.meta.url)}`)});
+    const { createDocument, memory } = await import(${JSON.stringify(`${new URL("../lib/index.js", import.meta.url)}`)});
+    const bytes = () => {
+      globalThis.gc();
+      return process.memoryUsage().heapUsed + memory.held;
+    };
     const document = createDocument();
     const root = document.appendChild(document.createElement("ul"));
     const kept = [];
+    const before = bytes();
     for (let at = 0; at < 50000; at++) {
       const item = root.appendChild(document.createElement("li"));
       kept.push(item, item.appendChild(document.createTextNode("some text")));
     }
     await new Promise((ready) => setTimeout(ready, 100));
-    console.log(process.memoryUsage().rss, kept.length);`;
-  const ran = spawnSync(process.execPath, ["--input-type=module", "-e", program], { encoding: "utf8" });
-  const [rss, count] = ran.stdout.split(" ").map(Number);
+    const { rss } = process.memoryUsage();
+    console.log(rss, kept.length, (bytes() - before) / kept.length);`;
+  const ran = spawnSync(process.execPath, ["--expose-gc", "--input-type=module", "-e", program], { encoding: "utf8" });
+  const [rss, count, each] = ran.stdout.split(" ").map(Number);
   assert.equal(count, 100000, ran.stderr);
   assert.ok(rss < 120e6, `${rss}`);
+  assert.ok(each < 420, `${each}`);
 });
