@@ -20,6 +20,14 @@ function tableOf({ document }, count) {
   return { document: made, table, cells };
 }
 
+const tables = new WeakMap();
+
+/** The table of a window, which is made once: scenes that leave it as it is have it in each run. */
+function tableOnce(window, count) {
+  if (!tables.has(window)) tables.set(window, tableOf(window, count));
+  return tables.get(window);
+}
+
 const ROUNDS = 20;
 
 /** Makes a scene that queries a selector ROUNDS times, over a table that stays, or with an edit before each query. */
@@ -213,8 +221,9 @@ export const PAGE_SCENES = {
   },
   "first walk": {
     says: "a node of five fresh copies visited once by firstChild, nextSibling and parentNode",
+    share: 0.5,
     ready(window, count) {
-      const { table } = tableOf(window, count / 10);
+      const { table } = tableOnce(window, count / 10);
       const copies = Array.from({ length: 5 }, () => table.cloneNode(true));
       return () => {
         for (const copy of copies) if (walkOnce(copy) < count / 5) throw new Error("a node is missing");

@@ -94,6 +94,7 @@ export const SCENES = {
   },
   reading: {
     says: "a node visited by firstChild, nextSibling and parentNode",
+    share: 0.25,
     ready(window, count) {
       const { root } = forest(window, count);
       return () => {
