@@ -22,7 +22,7 @@ function tableOf({ document }, count) {
 
 const tables = new WeakMap();
 
-/** The table of a window, which is made once: scenes that leave it as it is have it in each run. */
+/** The table of a window, made once: each run of a scene that leaves it as it is has the same one. */
 function tableOnce(window, count) {
   if (!tables.has(window)) tables.set(window, tableOf(window, count));
   return tables.get(window);
@@ -31,11 +31,11 @@ function tableOnce(window, count) {
 const ROUNDS = 20;
 
 /** Makes a scene that queries a selector ROUNDS times, over a table that stays, or with an edit before each query. */
-const asked = (selector, edit = () => undefined) => (window, count) => {
-  const { document, cells } = tableOf(window, count);
+const asked = (selector, edit = null) => (window, count) => {
+  const { document, cells } = edit ? tableOf(window, count) : tableOnce(window, count);
   return () => {
     for (let round = 0; round < ROUNDS; round++) {
-      edit(document, cells, round);
+      edit?.(document, cells, round);
       if (document.querySelectorAll(selector).length === 0) throw new Error("nothing was found");
     }
   };
