@@ -292,7 +292,8 @@ test("lists of a closed session refuse by exceptions of their realm", () => {
   const root = document.createElement("p");
   const lists = [root.childNodes, root.children, document.getElementsByTagName("p"), document.getElementsByClassName("a")];
   sessionOf(document).close();
-  const reads = [(list) => list[0], (list) => list.length, (list) => 0 in list, Object.keys, (list) => Object.getOwnPropertyDescriptor(list, 0), (list) => [...list]];
+  const descriptor = (list) => Object.getOwnPropertyDescriptor(list, 0);
+  const reads = [(list) => list[0], (list) => list.length, (list) => 0 in list, (list) => [...list], Object.keys, descriptor];
   const isOwn = (fault) => fault instanceof window.DOMException && fault.name === "InvalidStateError";
   for (const list of lists) for (const read of reads) assert.throws(() => read(list), isOwn, `${read}`);
 });

@@ -99,7 +99,8 @@ const nodes = {
         return NodeFilter.FILTER_SKIP;
       };
       const over = (...given) => document.createNodeIterator(attr, ...given);
-      const said = [over(), over(NodeFilter.SHOW_ATTRIBUTE), over(NodeFilter.SHOW_ELEMENT | NodeFilter.SHOW_COMMENT), over(NodeFilter.SHOW_ALL, filter)].map((it) => {
+      const { SHOW_ALL, SHOW_ATTRIBUTE, SHOW_COMMENT, SHOW_ELEMENT } = NodeFilter;
+      const said = [over(), over(SHOW_ATTRIBUTE), over(SHOW_ELEMENT | SHOW_COMMENT), over(SHOW_ALL, filter)].map((it) => {
         const ahead = () => [it.referenceNode === attr, it.pointerBeforeReferenceNode];
         const steps = ["nextNode", "nextNode", "previousNode", "previousNode"].map((step) => {
           const found = it[step]();
