@@ -20,16 +20,18 @@ create function huckleport.is_operator() returns boolean language sql stable as 
     from pg_namespace n where n.nspname = 'huckleport'
 $$;
 
-create function huckleport.check_granted(document bigint) returns void language plpgsql stable as $$
+-- Refuses a role to which the document is not granted, and returns true otherwise. (As an expression, a call takes less than as a query.)
+create function huckleport.check_granted(document bigint) returns boolean language plpgsql stable as $$
 begin
     -- (its callers run as the owner: whoever is that role has all rights, which is fast to see)
     if pg_has_role(session_user, current_user, 'member') then
-        return;
+        return true;
     end if;
     if not exists (select from huckleport.grants g where g.document = check_granted.document and g.role = session_user)
         and not huckleport.is_operator() then
         raise exception 'document % is not granted to %', document, session_user using errcode = 'insufficient_privilege';
     end if;
+    return true;
 end $$;
 
 create function huckleport.grant_document(given text, role text) returns void language plpgsql
@@ -250,40 +252,48 @@ $$;
 
 -- Hands lines in, as the requests `first`, `first` + 1 and so on of that client. A request that waits or was answered stays as it is if it is
 -- the same line, and the call is refused if it is another one. A line that is too long for the document is stored up to the byte behind its
--- limit, so its reply is `line-too-long`.
+-- limit, so its reply is `line-too-long`. (Each statement within takes 10 to 20 microseconds, so there are two.)
 create function huckleport.submit(document bigint, client uuid, first bigint, lines bytea[]) returns void language plpgsql
 security definer set search_path = pg_catalog, pg_temp set jit = off set enable_seqscan = off set enable_bitmapscan = off as $$
 declare
-    last bigint := submit.first + cardinality(submit.lines) - 1;
-    most record;
+    granted constant boolean := huckleport.check_granted(document);
+    -- (the size of the array is not below that of its lines)
+    size constant int := pg_column_size(lines);
     put int;
+    it record;
 begin
-    perform huckleport.check_granted(document);
-    select d.line + 1 as bytes, s.document_lines, s.document_bytes, s.client_lines, s.client_bytes into strict most
-    from huckleport.documents d cross join huckleport.settings s where d.id = submit.document;
     insert into huckleport.requests (document, client, request, line)
-    select submit.document, submit.client, submit.first + given.place - 1, substring(given.line for most.bytes)
+    select submit.document, submit.client, submit.first + given.place - 1, substring(given.line for 16777217)
     from unnest(submit.lines) with ordinality as given (line, place)
     order by given.place
     on conflict on constraint requests_client_document_request_key do nothing;
     get diagnostics put = row_count;
     -- (Another statement, so it also sees lines that were recorded while the first one waited for a worker's row.)
-    if put < cardinality(lines) or exists (select from huckleport.lines l
+    select d.line + 1 as longest,
+        huckleport.is_due(s.document_lines, s.document_bytes, 64, put, size) as counts_document,
+        huckleport.is_due(s.client_lines, s.client_bytes, 16, put, size) as counts_client,
+        exists (select from huckleport.lines l
             where l.document = submit.document and l.client = submit.client and l.request >= submit.first)
         or exists (select from huckleport.answers a
             where a.document = submit.document and a.client = submit.client and a.request >= submit.first)
         or exists (select from huckleport.segment_clients c
-            where c.document = submit.document and c.client = submit.client and c.last_request >= submit.first) then
-        perform huckleport.check_same(document, client, first, last, most.bytes, lines);
+            where c.document = submit.document and c.client = submit.client and c.last_request >= submit.first) as are_known,
+        pg_notify('huckleport_requests', submit.document::text)
+    into strict it from huckleport.documents d cross join huckleport.settings s where d.id = submit.document;
+    if size > it.longest then
+        update huckleport.requests r set line = substring(r.line for it.longest)
+        where r.document = submit.document and r.client = submit.client and r.request between first and first + cardinality(lines) - 1
+            and octet_length(r.line) > it.longest;
     end if;
-    -- (their size with that of the array is not below theirs)
-    if put > 0 and huckleport.is_due(most.document_lines, most.document_bytes, 64, put, pg_column_size(lines)) then
+    if it.are_known or put < cardinality(lines) then
+        perform huckleport.check_same(document, client, first, first + cardinality(lines) - 1, it.longest, lines);
+    end if;
+    if put > 0 and it.counts_document then
         perform huckleport.check_waiting(document, null);
     end if;
-    if put > 0 and huckleport.is_due(most.client_lines, most.client_bytes, 16, put, pg_column_size(lines)) then
+    if put > 0 and it.counts_client then
         perform huckleport.check_waiting(null, client);
     end if;
-    perform pg_notify('huckleport_requests', submit.document::text);
 end $$;
 
 -- Refuses other lines under requests that wait or were answered, and removes those from the waiting ones that were answered. A number that is
@@ -439,28 +449,63 @@ security definer set search_path = pg_catalog, pg_temp set jit = off as $$
     returning true
 $$;
 
+-- Whether a document may be claimed: no worker has it whose lease is running, and its version is the program's, or none of those that are kept
+-- for their workers.
+create function huckleport.is_free(d huckleport.documents, program text, running bigint[], kept text[]) returns boolean language sql as $$
+    select (d.owner is null or d.owner <> all (running))
+        and (d.version is null or d.version = program or d.version <> all (kept))
+        and (d.not_before is null or d.not_before <= huckleport.now() or d.not_before > huckleport.now() + interval '1 minute')
+$$;
+
+-- Documents with waiting lines that may be claimed, which are locked, and how many of them had an owner: of those that are named.
+create function huckleport.free_of_named(program text, most int, named bigint[], avoided bigint[], running bigint[], kept text[], out ids bigint[], out owned bigint)
+language plpgsql set enable_hashjoin = off set enable_mergejoin = off set enable_seqscan = off set enable_bitmapscan = off set enable_material = off as $$
+begin
+    select array_agg(it.id), count(it.owner) into ids, owned from (
+        select d.id, d.owner from unnest(named) as it (id) join huckleport.documents d on d.id = it.id
+        where d.id <> all (avoided) and huckleport.is_free(d, program, running, kept)
+            and exists (select from huckleport.requests r where r.document = d.id)
+        limit most for no key update of d skip locked) as it;
+end $$;
+
+-- The same of all. Either many documents have a worker, or few have waiting lines, so it is planned for their numbers each time.
+-- (A merge join would read all waiting lines, and documents that are hardly ever free seem to be often.)
+create function huckleport.free_of_all(program text, most int, avoided bigint[], running bigint[], kept text[], out ids bigint[], out owned bigint)
+language sql set enable_mergejoin = off set enable_bitmapscan = off as $$
+    select array_agg(it.id), count(it.owner) from (
+        select d.id, d.owner from huckleport.documents d
+        where d.id <> all (avoided) and huckleport.is_free(d, program, running, kept)
+            and exists (select from huckleport.requests r where r.document = d.id)
+        limit most for no key update of d skip locked) as it
+$$;
+
 -- Claims documents with waiting lines that no worker has whose lease is running: of those that are named, or of all. A document of another
 -- version is claimed if `adopts`, and if no worker of its version runs.
 -- (The workers are read once, ahead: a row that changed meanwhile is tested again by its new owner.)
 create function huckleport.claim(worker bigint, program text, most int, named bigint[], avoided bigint[], adopts boolean default false)
-returns table (id bigint, epoch bigint, numbers bigint, line int, attempts int) language sql
+returns table (id bigint, epoch bigint, numbers bigint, line int, attempts int) language plpgsql
 security definer set search_path = pg_catalog, pg_temp set jit = off as $$
-    with free as (
-        select d.id, d.owner from huckleport.documents d
-        where d.id in (select r.document from huckleport.requests r where claim.named is null or r.document = any (claim.named))
-            and d.id <> all (claim.avoided)
-            and (d.version is null or d.version = claim.program or claim.adopts and d.version <> all (array(
-                select w.version from huckleport.workers w where huckleport.is_running(w.until, w.lease))))
-            and (d.not_before is null or d.not_before <= huckleport.now() or d.not_before > huckleport.now() + interval '1 minute')
-            and (d.owner is null or d.owner <> all (array(select w.id from huckleport.workers w where huckleport.is_running(w.until, w.lease))))
-        limit claim.most for no key update skip locked),
-    counted as (select count(nextval('huckleport.take_overs')) from free where free.owner is not null)
+declare
+    running bigint[];
+    kept text[];
+    free bigint[];
+    owned bigint;
+begin
+    select coalesce(array_agg(w.id), '{}'), case when adopts then coalesce(array_agg(w.version), '{}') end into running, kept
+    from huckleport.workers w where huckleport.is_running(w.until, w.lease);
+    if named is null then
+        select * into free, owned from huckleport.free_of_all(program, most, avoided, running, kept);
+    else
+        select * into free, owned from huckleport.free_of_named(program, most, named, avoided, running, kept);
+    end if;
+    perform nextval('huckleport.take_overs') from generate_series(1, owned);
+    return query
     update huckleport.documents d
     set owner = claim.worker, epoch = d.epoch + 1, attempts = d.attempts + 1,
         not_before = case when d.attempts < 2 then null else huckleport.now() + interval '0.1 s' * 2 ^ least(d.attempts, 9) end
-    from free, counted where d.id = free.id
-    returning d.id, d.epoch, d.numbers, d.line, d.attempts
-$$;
+    where d.id = any (free)
+    returning d.id, d.epoch, d.numbers, d.line, d.attempts;
+end $$;
 
 -- A piece of the log of one document: how many lines, the last one's number, the lines and the replies by newlines.
 create function huckleport.piece(document bigint, behind bigint, most int, bytes bigint)
