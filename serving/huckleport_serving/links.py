@@ -6,7 +6,7 @@ import logging
 import select
 import time
 from importlib import resources
-from typing import Any, Callable, Optional, Sequence, Union
+from typing import Any, Callable, Iterable, Optional, Sequence, Union
 
 import psycopg
 from psycopg import sql
@@ -70,6 +70,11 @@ PASSING = ("08", "57", "53", "40", "25006")
 
 class WrongTables(Exception):
     """The database has no tables for documents, or those of another version."""
+
+
+def array(numbers: Iterable[int]) -> str:
+    """Returns numbers as PostgreSQL reads them."""
+    return "{" + ",".join(map(str, numbers)) + "}"
 
 
 def first_line(fault: Exception) -> str:

@@ -21,7 +21,7 @@ from psycopg import sql
 
 from .alone import Alone, Killed
 from .leases import Lease
-from .links import connected, first_line, log, ready
+from .links import array, connected, first_line, log, ready
 from .questions import is_question
 from .worlds import OUT_OF_MEMORY, OUT_OF_TIME, PROGRAM, Unanswered, Watch, World, replay, resident, split
 
@@ -153,11 +153,6 @@ RECORD = "select * from huckleport.record(%s, %s::bigint[], %s::bigint[], %s::bi
 
 class LeaseEnded(Exception):
     """The lease ended before it was renewed: the documents may be another's."""
-
-
-def array(numbers: Iterable[int]) -> str:
-    """Numbers as PostgreSQL reads them."""
-    return "{" + ",".join(map(str, numbers)) + "}"
 
 
 def give_memory_back() -> None:
