@@ -169,6 +169,23 @@ class Roles(Served):
         self.assertEqual(self.place.command_of(words, "grant", "mine", "client").wait(), 0)
         self.assertEqual(self.place.command("grant", "nowhere", "client", stderr=subprocess.DEVNULL).wait(), 1)
 
+    @unittest.skipUnless(os.geteuid() == 0, "the database's roles are mapped to root here")
+    def test_a_document_that_is_no_longer_granted_keeps_no_other_from_its_replies(self) -> None:
+        """A client has posted to two documents, and has been notified of the replies of both, as one is revoked."""
+        self.assertEqual(self.place.command("grant", "other", "client").wait(), 0)
+        with connect(self.as_role("client")) as client:
+            documents = client.document("mine"), client.document("other")
+            posted = [it.post([b'["root",0]']) for it in documents]
+            self.place.work(1)
+            self.wait_until("select count(*) = 0 from huckleport.requests")
+            self.assertEqual(self.place.command("grant", "other", "client", "--revoke").wait(), 0)
+            self.addCleanup(self.place.stop_workers)
+            while documents[1] not in documents[0]._notified:
+                documents[0]._link.wait(1)
+            self.assertEqual(documents[0].reply(posted[0][0]), b'{"ok":0}')
+            with self.assertRaises(NotGranted):
+                documents[1].reply(posted[1][0])
+
     def test_an_id_is_a_uuid(self) -> None:
         with self.assertRaises(ValueError):
             connect(self.place.conninfo, client='x"; create table pwned(); --')
