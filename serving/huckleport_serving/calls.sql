@@ -341,8 +341,8 @@ create function huckleport.is_question(line bytea) returns boolean language sql 
     select encode(substring(is_question.line for 64), 'escape') ~ s.questions from huckleport.settings s
 $$;
 
--- The replies to a client's requests to some documents, each behind a number: at most `most` of each document. Replies to questions up to that
--- number were taken, and are forgotten.
+-- Returns the replies to a client's requests to some documents, each behind a number: at most `most` of each document. Replies to questions up to
+-- that number were taken, and are removed.
 create function huckleport.replies_of(documents bigint[], client uuid, behind bigint[], most int)
 returns table (document bigint, request bigint, reply bytea) language plpgsql security definer set search_path = pg_catalog, pg_temp
 set jit = off set plan_cache_mode = force_generic_plan set enable_hashjoin = off set enable_mergejoin = off set enable_seqscan = off set enable_bitmapscan = off as $$
@@ -369,7 +369,7 @@ begin
         order by 1 limit replies_of.most) as it;
 end $$;
 
--- The same of one document, in the order of the requests.
+-- Returns the replies to a client's requests to one document behind a number, in the order of the requests.
 create function huckleport.replies(document bigint, client uuid, behind bigint, most int default 1000)
 returns table (request bigint, reply bytea) language sql security definer set search_path = pg_catalog, pg_temp set jit = off as $$
     select it.request, it.reply from huckleport.replies_of(array[document], client, array[behind], most) as it order by it.request
@@ -463,7 +463,7 @@ create function huckleport.is_free(d huckleport.documents, program text, running
         and (d.not_before is null or d.not_before <= huckleport.now() or d.not_before > huckleport.now() + interval '1 minute')
 $$;
 
--- Documents with waiting lines that may be claimed, which are locked, and how many of them had an owner: of those that are named.
+-- Locks documents with waiting lines that may be claimed, of those that are named. Returns them, and how many of them had an owner.
 create function huckleport.free_of_named(program text, most int, named bigint[], avoided bigint[], running bigint[], kept text[], out ids bigint[], out owned bigint)
 language plpgsql set plan_cache_mode = force_generic_plan set enable_hashjoin = off set enable_mergejoin = off set enable_seqscan = off set enable_bitmapscan = off set enable_material = off as $$
 begin
@@ -474,8 +474,9 @@ begin
         limit most for no key update of d skip locked) as it;
 end $$;
 
--- The same of all. Either many documents have a worker, or few have waiting lines, so it is planned for their numbers each time.
--- (A merge join would read all waiting lines, and documents that are hardly ever free seem to be often.)
+-- Locks documents with waiting lines that may be claimed, of all documents. Returns them, and how many of them had an owner.
+-- Either many documents have a worker, or few have waiting lines. So each call is planned for their numbers.
+-- A merge join would read all waiting lines, since the planner expects many free documents.
 create function huckleport.free_of_all(program text, most int, avoided bigint[], running bigint[], kept text[], out ids bigint[], out owned bigint)
 language sql set enable_mergejoin = off set enable_bitmapscan = off as $$
     select array_agg(it.id), count(it.owner) from (

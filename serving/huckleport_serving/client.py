@@ -63,7 +63,7 @@ class Client:
         # By the place of their database, and their id there.
         self._by_place: Dict[Tuple[int, str], Document] = {}
         self._links = self._linked() if links is None else links
-        # By their database: the documents with replies of which the client was notified, and that were not read since.
+        # By their database: the documents that were notified of replies, and not read since.
         self._notified: List[OrderedDict[Document, None]] = [OrderedDict() for _ in self._links]
 
     def _linked(self) -> List[Link]:

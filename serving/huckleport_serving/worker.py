@@ -14,7 +14,7 @@ import socket
 import time
 from dataclasses import dataclass, field
 from itertools import accumulate, islice
-from typing import Any, Dict, Iterable, List, Optional, Sequence, Set, Tuple
+from typing import Any, Dict, List, Optional, Sequence, Set, Tuple
 
 import psycopg
 from psycopg import sql

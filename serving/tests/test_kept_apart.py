@@ -208,7 +208,7 @@ print(len(replies) > 2, replies == [b'{"ok":%d}' % number for number in range(1,
 
 class Worlds(unittest.TestCase):
     def test_a_line_that_is_refused_memory_has_no_reply(self) -> None:
-        """A worker does not take the reply of the line before for that of a refused line, of which nothing was done."""
+        """A worker does not take the reply of the line before for that of a refused line, which changed nothing."""
         ran = subprocess.run([sys.executable, "-c", REFUSED_MEMORY], env=Place.environment(), stdout=subprocess.PIPE, check=True)
         self.assertEqual(ran.stdout, b"True True\n")
 
