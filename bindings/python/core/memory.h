@@ -1,4 +1,4 @@
-/* The library's memory: its calls of malloc, realloc and free are linked to these (--wrap). Blocks of a size stand side by side in slabs, and one
+/* The library's memory. Its three functions for memory are here, in place of those of the archive. Blocks of a size are side by side in slabs, and one
  * that is freed is the next to be taken. A long call runs without the lock of the interpreter, so there is a lock here. A thread may own it for a
  * whole call, and releases it amid the call if another thread wants it. */
 #ifndef HUCKLEPORT_MEMORY_H
@@ -13,12 +13,15 @@
 #define __has_builtin(name) 0
 #endif
 
-void *__real_malloc(size_t size);
-void *__real_realloc(void *at, size_t size);
-void __real_free(void *at);
-void *__wrap_malloc(size_t size);
-void *__wrap_realloc(void *at, size_t size);
-void __wrap_free(void *at);
+/* Memory that was taken, unless is_there is 0; at is never null. */
+typedef struct {
+    size_t is_there;
+    void *at;
+} Room;
+
+Room rattle_alloc(size_t size, size_t alignment);
+Room rattle_realloc(void *at, size_t had, size_t size, size_t alignment);
+void rattle_dealloc(void *at);
 
 /* A block consists of grains. A word ahead of the memory that is handed out holds their number: 0 for a block that malloc has made. */
 enum { GRAIN = 16, WORD = 8, MOST_GRAINS = 33, MOST_SIZE = GRAIN * (MOST_GRAINS - 1) - WORD, SLAB = 1 << 18 };
@@ -129,7 +132,7 @@ static size_t *word_of(void *at)
 /* Begins a slab, where there is memory for it. */
 static bool slab_made(void)
 {
-    Block *slab = memory.spare ? memory.spare : __real_malloc(SLAB);
+    Block *slab = memory.spare ? memory.spare : malloc(SLAB);
     if (!slab)
         return false;
     memory.spare = memory.spare ? slab->next : NULL;
@@ -195,7 +198,7 @@ static void slabs_freed(Block *slabs)
 {
     while (slabs) {
         Block *next = slabs->next;
-        __real_free(slabs);
+        free(slabs);
         slabs = next;
     }
 }
@@ -228,10 +231,10 @@ static void *large_made(char *found)
 /* (Seldom used code is a function of its own, so that the usual way saves no registers.) */
 static __attribute__((noinline)) void *large_taken(size_t size)
 {
-    return size > SIZE_MAX - GRAIN ? NULL : large_made(__real_malloc(size + GRAIN));
+    return size > SIZE_MAX - GRAIN ? NULL : large_made(malloc(size + GRAIN));
 }
 
-void *__wrap_malloc(size_t size)
+static inline void *taken(size_t size)
 {
     size_t grains = (size + WORD + GRAIN - 1) / GRAIN;
     if (size > MOST_SIZE)
@@ -244,13 +247,13 @@ static __attribute__((noinline)) void slabs_left_and_freed(void)
     slabs_freed(slabs_left());
 }
 
-void __wrap_free(void *at)
+void rattle_dealloc(void *at)
 {
     size_t grains = at ? *word_of(at) : 0;
     if (!at)
         return;
     if (!grains)
-        __real_free((char *)at - GRAIN);
+        free((char *)at - GRAIN);
     else if (!is_memory_mine())
         block_left_once(at, grains);
     else if (is_last_left(at, grains))
@@ -258,19 +261,36 @@ void __wrap_free(void *at)
 }
 
 /* (A block that malloc has made has more than MOST_SIZE bytes, so that a smaller size is copied from within it.) */
-void *__wrap_realloc(void *at, size_t size)
+static void *retaken(void *at, size_t size)
 {
     size_t grains = at ? *word_of(at) : 0, room = grains * GRAIN - (grains ? WORD : 0);
     if (at && !grains && size > MOST_SIZE)
-        return size > SIZE_MAX - GRAIN ? NULL : large_made(__real_realloc((char *)at - GRAIN, size + GRAIN));
+        return size > SIZE_MAX - GRAIN ? NULL : large_made(realloc((char *)at - GRAIN, size + GRAIN));
     if (grains && size <= room)
         return at;
-    void *found = __wrap_malloc(size);
+    void *found = taken(size);
     if (found && at)
         memcpy(found, at, grains && room < size ? room : size);
     if (found)
-        __wrap_free(at);
+        rattle_dealloc(at);
     return found;
+}
+
+static inline Room room_of(void *at)
+{
+    static char nothing;
+    return (Room){ at != NULL, at ? at : &nothing };
+}
+
+Room rattle_alloc(size_t size, size_t alignment)
+{
+    return room_of(taken(size ? size : alignment));
+}
+
+Room rattle_realloc(void *at, size_t had, size_t size, size_t alignment)
+{
+    (void)had;
+    return room_of(retaken(at, size ? size : alignment));
 }
 
 #endif
