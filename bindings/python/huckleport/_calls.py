@@ -45,9 +45,9 @@ def _spelled(name: str, it: FunctionType) -> str:
 def _in_core(kind: type, name: str, it: Any) -> Any:
     """What the extension module has in place of a member, or None."""
     if isinstance(it, property):
-        found = core.attribute(f"{kind.__name__}.{name}", it.__doc__ or "")
-        return found if it.fset is None or core.member(f"{kind.__name__}.{name}=", "") else found and property(found.__get__, it.fset, None, it.__doc__)
-    return core.member(f"{kind.__name__}.{name}", _spelled(name, it)) if isinstance(it, FunctionType) else None
+        found = core.attribute(kind, f"{kind.__name__}.{name}", it.__doc__ or "")
+        return found if it.fset is None or core.member(kind, f"{kind.__name__}.{name}=", "") else found and property(found.__get__, it.fset, None, it.__doc__)
+    return core.member(kind, f"{kind.__name__}.{name}", _spelled(name, it)) if isinstance(it, FunctionType) else None
 
 
 def quick(kind: K) -> K:

@@ -146,6 +146,18 @@ class Members(unittest.TestCase):
         for name in ("a" + "b" * 1000, "\u00e9" * 300, "\u4e2d" * 300, "\U0001f600" * 300):
             self.assertEqual(self.document.create_element(name).tag_name, name)
 
+    def test_one_wide_unit(self):
+        """A unit of each width, at each place among letters."""
+        node = self.document.create_text_node("")
+        for length in [*range(1, 14), 256, 257, 259]:
+            for unit in ("\x7f", "\x80", "\xff", "\u0100", "\ud800", "\uffff"):
+                found = [("a" * it + unit).ljust(length, "b") for it in range(length)]
+                self.assertEqual([self.set_and_read(node, it) for it in found], found)
+
+    def set_and_read(self, node, text):
+        node.data = text
+        return node.data
+
     def test_words(self):
         """Members take words by name as before, and refuse others."""
         p = self.document.create_element(name="p")
@@ -194,7 +206,7 @@ class Reasons(unittest.TestCase):
             (lambda: found.compare_boundary_points(7, found), "compare_boundary_points: how is 7, and has to be from 0 to 3: NotSupportedError"),
             (lambda: found.compare_point(loose, 0), "compare_point: 4 <c> is in another tree than range 0: WrongDocumentError"),
             (lambda: self.text.discard(), "discard: 3 <#text> is a child of 2 <b>: remove it first: in-use"),
-            (lambda: h.CharacterData.append_data(self.a, "x"), "append_data: 1 <a> is of another kind than this call is for: TypeError"),
+            (lambda: self.session._calls.append_data(self.a.number, "x"), "append_data: 1 <a> is of another kind than this call is for: TypeError"),
             (lambda: self.session.create_mutation_observer().observe(self.a), "observe: the options for 1 <a> select none of child_list, attributes and character_data, or contradict each other: TypeError"),
         ):
             self.assertEqual(self.said(use), due)
