@@ -20,7 +20,7 @@ MODULE = Extension(
     depends=[os.path.join("core", it) for it in sorted(os.listdir(os.path.join(HERE, "core")))],
     include_dirs=[STATIC, "core"],
     extra_objects=[ARCHIVE],
-    extra_compile_args=["-std=c99", "-O2", "-fvisibility=hidden"],
+    extra_compile_args=["-std=c99", "-O3", "-fno-tree-vectorize", "-fvisibility=hidden"],
     extra_link_args=["-Wl,--exclude-libs,ALL", "-Wl,-z,noexecstack"],
     py_limited_api=True,
 )
