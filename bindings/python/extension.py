@@ -17,7 +17,7 @@ CORE = os.path.join(HERE, "core")
 MADE = os.path.join(CORE, "calls.h")
 MODULE = os.path.join(HERE, "huckleport", "_core.abi3.so")
 LIBRARY = os.path.join(ROOT, "bindings/c/out")
-# (loops over texts, most of which are short, are quickest one step at a time)
+# (most texts are short, so loops over them are quickest one step at a time)
 QUICK = ["-O3", "-fno-tree-vectorize"]
 sys.dont_write_bytecode = True
 sys.path[:0] = [HERE, os.path.join(ROOT, "bindings/c")]
