@@ -206,7 +206,7 @@ class Reasons(unittest.TestCase):
             (lambda: found.compare_boundary_points(7, found), "compare_boundary_points: how is 7, and has to be from 0 to 3: NotSupportedError"),
             (lambda: found.compare_point(loose, 0), "compare_point: 4 <c> is in another tree than range 0: WrongDocumentError"),
             (lambda: self.text.discard(), "discard: 3 <#text> is a child of 2 <b>: remove it first: in-use"),
-            (lambda: self.session._calls.append_data(self.a.number, "x"), "append_data: 1 <a> is of another kind than this call is for: TypeError"),
+            (lambda: h.CharacterData.append_data(self.a, "x"), "append_data: 1 <a> is of another kind than this call is for: TypeError"),
             (lambda: self.session.create_mutation_observer().observe(self.a), "observe: the options for 1 <a> select none of child_list, attributes and character_data, or contradict each other: TypeError"),
         ):
             self.assertEqual(self.said(use), due)
