@@ -40,6 +40,11 @@ HEAD = """\
 """
 
 
+def kit_sum():
+    """Returns the sum of the kit's files, or its name and version if it has no store."""
+    return start.kit().kit_sum() if hasattr(start.kit(), "kit_sum") else kit()
+
+
 def module(name, path):
     """Returns a script as a module, with the folder of its own imports."""
     sys.path.insert(0, os.path.dirname(path))
@@ -50,8 +55,9 @@ def module(name, path):
 
 
 def kit():
-    """Returns the kit's name and version."""
-    return subprocess.run(["rt", "version"], stdout=subprocess.PIPE, text=True, check=True).stdout.strip()
+    """Returns the kit's name and its logic. Releases of the kit that share a logic make the same code, so the release is left out."""
+    told = subprocess.run(["rt", "version"], stdout=subprocess.PIPE, text=True, check=True).stdout.strip()
+    return f"rattle-kit {told[told.index('logic') :]}"
 
 
 def words_of(name, target, code, to):
@@ -73,7 +79,9 @@ def sum_of_bytes(*parts):
 
 
 def kept(key, make):
-    """Returns the content that `make` returns. It is kept beside the kit's store under a sum of its sources, and then not made again."""
+    """Returns the content that `make` returns. It is kept beside the kit's store, if there is one, under a sum of its sources, and then not made again."""
+    if not hasattr(start.kit(), "STORE"):
+        return make()
     folder = f"{start.kit().STORE}/generated"
     with contextlib.suppress(OSError), open(f"{folder}/{key}", "rb") as file:
         whole = lzma.decompress(file.read())
@@ -102,7 +110,7 @@ def compile(clang, name, target, to):
                 sys.exit(f"clang made no assembly of {code}: {ran.stdout[-2000:]}")
             return bytes_of(f"{room}/made.s")
 
-    whole = kept(sum_of_bytes(start.kit().kit_sum(), bytes_of(code), words_of(name, target, "code", "made.s")), made)
+    whole = kept(sum_of_bytes(kit_sum(), bytes_of(code), words_of(name, target, "code", "made.s")), made)
     with open(f"{to}/{assemble.assembly(name, TARGETS[target])}", "wb") as file:
         file.write(whole)
 
@@ -121,7 +129,7 @@ def make_module(to):
             return b"".join(len(it).to_bytes(8) + it for it in (bytes_of(f"{room}/{name}") for name in (MODULE, CALLS)))
 
     tools = [bytes_of(it) for it in (shutil.which("wasm-opt"), web.first(web.BUILTINS), web.first(web.MALLOC))]
-    whole = kept(sum_of_bytes(start.kit().kit_sum(), bytes_of(code), assemble.sources_of(MODULE), tools), made)
+    whole = kept(sum_of_bytes(kit_sum(), bytes_of(code), assemble.sources_of(MODULE), tools), made)
     for name in (MODULE, CALLS):
         size = int.from_bytes(whole[:8])
         with open(f"{to}/{name}", "wb") as file:

@@ -190,7 +190,7 @@ def mistakes_of_other_kinds(program):
 
 
 def version(program):
-    """The package's, and the kit's as it names itself, or as generated/ notes it if there is no kit."""
+    """The package's, and the logic of the kit as it names itself, or as generated/ notes it if there is no kit."""
     with open(f"{ROOT}/bindings/VERSION", encoding="utf-8") as file:
         number = file.read().strip()
     try:
@@ -199,7 +199,7 @@ def version(program):
         with open(f"{ROOT}/generated/SUMS", encoding="utf-8") as file:
             kit = re.search(r"(?m)^# kit: (.*)$", file.read())[1]
     for word in ("--version", "-V"):
-        equal(run(program, word), (0, f"domserve {number} ({kit})\n".encode(), b""))
+        equal(run(program, word), (0, f"domserve {number} (rattle-kit {kit[kit.index('logic') :]})\n".encode(), b""))
 
 
 def statuses_of_the_pages(program):

@@ -63,6 +63,11 @@ def kit():
     rt.rtlib.Crate = rt.Crate
     rt.Crate.cuts_libraries = True
     rt.rtlib.guarded()
+    if not hasattr(rt, "Kept"):
+        # (a kit without a store has no kept work of a crate, with which the tries of its edits could begin)
+        rt.work_for = lambda crate: None
+        # (a cut library has no stamp, and this kit would sum all files along each path below a crate for it: minutes)
+        rt.Crate.stamp = lambda crate: ""
     return rt
 
 
@@ -163,8 +168,10 @@ def written(path):
 class Left:
     """The results that a kit without a store left of crates under their out/. They are good if they are newer than all their sources."""
 
-    def __init__(self):
-        self.at = {}
+    at = None
+
+    def __init__(self, rt):
+        self.rt, self.written = rt, {}
 
     def key(self, crate):
         parts = [f"{crate.folder}/{part}" for part in ("src", "specs", "proofs")]
@@ -176,17 +183,17 @@ class Left:
         yield
 
     def made(self, crate):
-        """Returns the file that a proof of a crate leaves: the program, or a library that has no stamp. Those with one are built by other commands."""
-        if crate.is_program or crate.is_static:
-            return f"{crate.folder}/out/{crate.name}"
-        return crate.rlib if not os.path.exists(f"{os.path.dirname(crate.rlib)}/stamp") else ""
+        """Returns when the files were written that a proof of a crate leaves: of a program or a static library, or a library without a stamp. Those with one
+        are built by other commands."""
+        if not crate.makes_rlib():
+            return min(written(f"{crate.folder}/out/{it}") for it in files_of(self.rt, crate))
+        return 0 if os.path.exists(f"{os.path.dirname(crate.rlib)}/stamp") else written(crate.rlib)
 
     def give(self, crate, tests, key):
-        newest = max([key, *(self.at[it.name] for it in crate.below())])
-        return written(self.made(crate)) > newest
+        return self.made(crate) > max([key, *(self.written[it.name] for it in crate.below())])
 
     def keep(self, crate, tests, key):
-        self.at[crate.name] = written(self.made(crate))
+        self.written[crate.name] = self.made(crate)
 
     def is_built(self, crate):
         self.keep(crate, False, None)
@@ -207,7 +214,7 @@ def files_of(rt, crate):
 def store(rt, crates):
     """Returns the kit's store. Here it also keeps the code of a program and of a static library, and the library's archive as out/NAME."""
     if not hasattr(rt, "Kept"):
-        return Left()
+        return Left(rt)
 
     class Store(rt.Kept):
         def key(self, crate):
@@ -264,15 +271,7 @@ class Start:
     def build(self, crate, jobs):
         """Proves a crate from nothing, and returns whether it is proved. A static library's archive is then out/NAME."""
         flags = ["--jobs", str(jobs)]
-        return not (self.build_top(crate, flags) if not crate.makes_rlib() and hasattr(self.rt, "Kept") else self.build_other(crate, flags))
-
-    def build_other(self, crate, flags):
-        if not crate.is_static:
-            return crate.ci(flags, False)
-        status = crate.build_static(flags)
-        if not status:
-            os.rename(f"{crate.folder}/out/lib{crate.name}.a", f"{crate.folder}/out/{crate.name}")
-        return status
+        return not (crate.ci(flags, False) if crate.makes_rlib() else self.build_top(crate, flags))
 
     def build_top(self, crate, flags):
         """Proves a program or a static library as the gate does, and builds it of that check's result, so that neither proves it a second time. The code that

@@ -1,11 +1,12 @@
 /* Sessions that go on after an allocation was refused. Each allocation of each question, of each call that makes an object and of a notification is
  * refused in turn, over a document of some hundred nodes. The call then says that it was refused memory, and its out pointers are as they were. After
- * that the session answers two hundred further lines as one that was never asked. Linked with --wrap for malloc, realloc and free. */
+ * that the session answers two hundred further lines as one that was never asked. The same holds of a paste into an observed text, if its data cannot
+ * grow. Linked with --wrap for malloc, realloc and free. */
 #include "refusing.h"
 #include "wanting.h"
 #include <string.h>
 
-enum { PARAGRAPHS = 100, LINES = 200, NONE = 7, ROOM = 1 << 20 };
+enum { PARAGRAPHS = 100, LINES = 200, NONE = 7, TEXT = 3, PASTE = 1 << 20, ROOM = 1 << 20 };
 
 struct said {
     size_t length;
@@ -146,6 +147,69 @@ static bool once(int number, unsigned long at, unsigned long *refusals)
     return was_met;
 }
 
+static const char held[] = "some text of it";
+
+/* Whether the text has the data that it was made with, and that number of units of the paste after it. */
+static bool has_data(size_t pasted)
+{
+    hp_text_view data;
+    if (hp_data_of(&session, TEXT, &data) != HP_OK || data.length != sizeof held - 1 + pasted)
+        return false;
+    for (size_t at = 0; at < data.length; at++) {
+        size_t in_paste = at - (sizeof held - 1);
+        if (data.units[at] != (at < sizeof held - 1 ? (uint16_t)held[at] : (uint16_t)('a' + in_paste % 26)))
+            return false;
+    }
+    return true;
+}
+
+/* The session of a paste: an observer of its own has the changes of the text, with the old data. */
+static uint32_t build_observed(void)
+{
+    uint32_t observer = NONE;
+    hp_options options = HP_OPTIONS_INIT;
+    options.character_data = options.character_data_old_value = 1;
+    build();
+    WANT(hp_create_observer(&session, &observer) == HP_OK);
+    WANT(hp_observe(&session, observer, TEXT, &options, NULL, 0, NULL, 0) == HP_OK);
+    return observer;
+}
+
+/* Takes the observer's records, and returns how many there were. */
+static size_t taken(uint32_t observer)
+{
+    size_t count = NONE;
+    WANT(hp_take_records(&session, observer) == HP_OK && hp_records_into(&session, 0, NULL, 0, &count) == HP_OK);
+    return count;
+}
+
+/* A paste whose first allocation is that of its argument, and the second that of the room in the text: the second is refused. Then the same paste with
+ * all its memory. */
+static void paste(void)
+{
+    static uint16_t units[PASTE];
+    hp_text_view old;
+    hp_counts in_use_now;
+    for (size_t at = 0; at < PASTE; at++)
+        units[at] = (uint16_t)('a' + at % 26);
+    uint32_t observer = build_observed();
+    WANT(taken(observer) == 0);
+    further(&due);
+    WANT(hp_close(&session) == HP_OK);
+    observer = build_observed();
+    refuse(2);
+    uint8_t status = hp_append_data(&session, TEXT, units, PASTE);
+    bool was_met = asked >= 2;
+    counts = false;
+    WANT(was_met && status == HP_OUT_OF_MEMORY);
+    WANT(hp_in_use(&session, &in_use_now) == HP_OK && has_data(0) && taken(observer) == 0);
+    further(&got);
+    WANT(got.length == due.length && memcmp(got.text, due.text, due.length) == 0);
+    WANT(hp_append_data(&session, TEXT, units, PASTE) == HP_OK && has_data(PASTE));
+    WANT(taken(observer) == 1 && hp_record_old_value(&session, 0, 0, &old) == HP_OK && old.length == sizeof held - 1);
+    WANT(hp_close(&session) == HP_OK);
+}
+
 int main(void)
 {
     unsigned long refusals = 0;
@@ -158,6 +222,7 @@ int main(void)
         if (faults)
             printf("in call %d\n", number);
     }
+    paste();
     printf("%d calls, %lu refusals after which a session went on\n", CALLS, refusals);
     return faults || refusals < CALLS;
 }

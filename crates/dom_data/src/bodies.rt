@@ -7,7 +7,7 @@ ghost use Rattle.dom_model.specs.Forests.Texts.{spliced};
 ghost use Rattle.dom_model.specs.DataAndCopies.Data.{content_in, with_data, with_attributes};
 ghost use Rattle.dom_data.specs.Tails.{tail_in};
 
-use dom_edit::Content;
+use dom_edit::{Content, World};
 use dom_kinds::Kind;
 use dom_tree::{NodeId, Tree};
 use dom_units::Units;
@@ -59,6 +59,34 @@ pub(crate) fn splice_data(
     // a law: so many units fit the memory
     let _ = content.text().len();
     outcome
+}
+
+// Reserves room for `more` units of a node's data.
+fn reserve_in(
+    tree: &mut Tree<Content>,
+    alloc: Global,
+    node: NodeId,
+    more: usize,
+) -> Result<(), AllocError>
+    requires held { HasNode tree.old.forest node }
+    ensures { tree.new ≡ tree.old }
+{
+    tree.state_law();
+    let content = tree.body_mut(node);
+    content.reserve(alloc, more)
+}
+
+/// Reserves room for `more` units of a node's data. A replacement that grows the data by at most `more` units then takes no memory for it.
+pub fn reserve_data(
+    world: &mut World,
+    alloc: Global,
+    node: NodeId,
+    more: usize,
+) -> Result<(), AllocError>
+    requires held { HasNode world.old.tree.forest node }
+    ensures { world.new ≡ world.old }
+{
+    reserve_in(&mut world.tree, alloc, node, more)
 }
 
 // Moves the units beyond an offset of a node's data into another node, which has no attributes.

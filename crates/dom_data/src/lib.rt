@@ -12,6 +12,7 @@ mod split_text;
 mod text_contents;
 
 pub use attributes::{remove_attribute, set_attribute, toggle_attribute};
+pub use bodies::reserve_data;
 pub use character_data::{replace_data, replace_data_checked, set_data, substring};
 pub use normalization::normalize;
 pub use split_text::{split, split_checked};

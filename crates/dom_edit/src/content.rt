@@ -288,6 +288,25 @@ impl Content {
         outcome
     }
 
+    /// Reserves room for `more` units of data. A splice that grows the data by at most `more` units then takes no memory.
+    ///
+    /// Content with attributes gets no room: no node has both, and [`Content::splice`] copies such content.
+    pub fn reserve(&mut self, alloc: Global, more: usize) -> Result<(), AllocError>
+        ensures { self.new ≡ self.old }
+    {
+        match &mut self.held {
+            Payload::Nothing => {
+                let mut text = Units::new(alloc);
+                text.reserve(more)?;
+                self.held = Payload::Data(text);
+                Ok(())
+            }
+            Payload::Data(text) => text.reserve(more),
+            Payload::Tail(tail) => tail.reserve(more),
+            Payload::Attributes(_) | Payload::Both(_) => Ok(()),
+        }
+    }
+
     // Does so in a copy of data and attributes, if there are both. No node has both.
     fn splice_copy(
         &mut self,

@@ -73,6 +73,13 @@ impl Tail {
         outcome
     }
 
+    /// Reserves room for `more` units behind those of the buffer.
+    pub(crate) fn reserve(&mut self, more: usize) -> Result<(), AllocError>
+        ensures { self.new ≡ self.old }
+    {
+        self.text.reserve(more)
+    }
+
     /// Skips `count` more units at the front.
     pub(crate) fn pass(&mut self, count: usize)
         requires { count ≤ length self.old }

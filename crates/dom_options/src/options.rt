@@ -33,8 +33,8 @@ pub enum Refusal {
     Mistake(String),
 }
 
-/// The text of `--version`: the version, and the identity of the kit that proves the program.
-const VERSION: &str = "0.1.0 (rattle-kit-13f logic dac8208d650f15bf)";
+/// The text of `--version`: the version, and the logic of the kit that proves the program. Releases of the kit share it.
+const VERSION: &str = "0.1.0 (rattle-kit logic dac8208d650f15bf)";
 
 /// The text of help below the options: statuses, and an example.
 const AFTER: &str = "\

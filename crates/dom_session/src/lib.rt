@@ -27,6 +27,7 @@ mod range_setters;
 mod read_only;
 mod refusals;
 mod reply;
+mod room;
 mod session;
 mod static_ranges;
 mod subtree;

@@ -27,6 +27,7 @@ use crate::in_use::{self, Counts};
 use crate::neighbours::{self, Neighbours};
 use crate::node_creation::{create_element, create_text, make_nodes};
 use crate::reply::Reply;
+use crate::room::make_room;
 use crate::subtree::{self, NodeRow, SubtreePart};
 use crate::traversal::{next_node, previous_node, walk};
 use crate::tree_edits::edit_tree;
@@ -111,6 +112,8 @@ impl Session {
     /// Applies a command, and returns its reply. If it is refused memory before it has changed anything, the session goes on; else the
     /// session ends, and every later call returns `OutOfMemory::Ended`.
     ///
+    /// A text of 1,024 units or more gets its room in the data of a node first, so a paste that is too large is refused.
+    ///
     /// A session that has ended still holds its nodes, and they can be read, each with its label.
     pub fn apply(&mut self, command: Command) -> Result<Reply, OutOfMemory>
         // For every world that the session stands for, the reply is that world's answer, and the session stands for its next world.
@@ -128,11 +131,16 @@ impl Session {
             OnErr result (self.new ≡ self.old) }
         ensures all_or_nothing { goes_on (command_view command) ≡ true →
             OnErr result (IsAsBefore self.old self.new) }
+        ensures unchanged { goes_on (command_view command) ≡ false →
+            result ≡ Err OutOfMemory.Refused → self.new ≡ self.old }
         ensures stays_ended { self.old.ended ≡ true → IsErr result }
         ensures bounds { self.new.bounds ≡ self.old.bounds }
     {
         if self.ended {
             return Err(OutOfMemory::Ended);
+        }
+        if make_room(&mut self.world, self.limits.numbers, self.alloc, &command).is_err() {
+            return Err(OutOfMemory::Refused);
         }
         let stays_open = goes_on(&command);
         match answered(&mut self.world, self.limits.numbers, self.alloc, command) {

@@ -108,6 +108,15 @@ impl Units {
         outcome
     }
 
+    /// Reserves room for `more` units. A splice that grows the text by at most `more` units then takes no memory.
+    ///
+    /// That splice shrinks the buffer if the text then fills less than half of it.
+    pub fn reserve(&mut self, more: usize) -> Result<(), AllocError>
+        ensures { self.new ≡ self.old }
+    {
+        self.units.reserve(more)
+    }
+
     /// Returns whether the units are well-formed: each surrogate has its partner.
     pub fn is_well_formed(&self) -> bool
         ensures { result ≡ is_well_formed_units self.now }
