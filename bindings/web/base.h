@@ -818,52 +818,37 @@ SHOWN(attributes)(uint32_t index, uint32_t element)
 
 /* ---- Nodes ahead of a walk. */
 
-/* Puts a node: number, kind, depth, the number of its name where it is an element or else HP_NONE, and how many children it has. */
-static uint32_t put_node(hp_session *session, uint32_t node, uint32_t depth, hp_node_links *links)
+/* The most nodes of one call. */
+enum { MOST_AHEAD = 256 };
+
+/* Puts a node: its number, its parent's, its kind, and the number of its name if it is an element, otherwise HP_NONE. */
+static uint32_t put_node(hp_session *session, const hp_subtree_row *row)
 {
-    uint32_t number = HP_NONE, status = hp_links(session, node, links);
-    if (status == HP_OK && links->kind == ELEMENT)
-        status = name_of(session, node, &number);
-    if (status == HP_OK && !has_words(5))
-        status = HP_OUT_OF_MEMORY;
+    uint32_t number = HP_NONE, status = row->kind == ELEMENT ? name_of(session, row->node, &number) : HP_OK;
     if (status != HP_OK)
         return status;
-    put(node);
-    put(links->kind);
-    put(depth);
+    put(row->node);
+    put(row->parent);
+    put(row->kind);
     put(number);
-    put((uint32_t)links->children);
     return HP_OK;
 }
 
-/* From the links of a node that has no child to go to: the next node in tree order, above which it goes up; HP_NONE behind the last of depth 0. */
-static uint32_t next_over(hp_session *session, hp_node_links *links, uint32_t *depth)
+/* Puts the nodes below a node in tree order, from `start` on, at most `most` of them and MOST_AHEAD. The third number is the next node, or HP_NONE. */
+SHOWN(nodes_from)(uint32_t index, uint32_t node, uint32_t start, uint32_t most)
 {
-    while (links->next == HP_NONE && *depth) {
-        if (hp_links(session, links->parent, links) != HP_OK)
-            return HP_NONE;
-        --*depth;
-    }
-    return links->next;
-}
-
-/* Puts a node, its following siblings and their descendants, in tree order, at most `most` nodes. The third number is 1 if these are all, otherwise 0. */
-SHOWN(nodes_from)(uint32_t index, uint32_t node, uint32_t most)
-{
+    static hp_subtree_row rows[MOST_AHEAD];
     hp_session *session;
-    hp_node_links links;
-    uint32_t depth = 0, status = enter(index, &session);
+    size_t count = 0;
+    uint32_t status = enter(index, &session);
     if (status)
         return status;
     begin_words();
-    for (uint32_t count = 0; count < most && node != HP_NONE && status == HP_OK; count++) {
-        status = put_node(session, node, depth, &links);
-        if (status == HP_OK && links.first_child != HP_NONE)
-            depth++;
-        if (status == HP_OK)
-            node = links.first_child != HP_NONE ? links.first_child : next_over(session, &links, &depth);
-    }
-    numbers[2] = node == HP_NONE;
+    status = hp_subtree_into(session, node, start, rows, most < MOST_AHEAD ? most : MOST_AHEAD, &count, &numbers[2]);
+    if (status == HP_OK && !has_words(4 * count))
+        status = HP_OUT_OF_MEMORY;
+    for (size_t at = 0; at < count && status == HP_OK; at++)
+        status = put_node(session, &rows[at]);
     return end_words(status);
 }
 

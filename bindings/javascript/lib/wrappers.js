@@ -182,8 +182,8 @@ class NodeIs {
     return made;
   }
 
-  /** Returns the state of a child by its number, with valid links; makes its wrapper by its kind, name and count of children if there is none. */
-  adopted(number, kind, name, count) {
+  /** Returns the state of a child by its number, with valid links; makes its wrapper by its kind and name if there is none. */
+  adopted(number, kind, name) {
     const { session, realm } = this;
     const found = session.marks.has(number) ? this.child(number) : undefined;
     if (found !== undefined) {
@@ -192,7 +192,7 @@ class NodeIs {
     }
     const its = kind === ELEMENT ? elementByNumber(session, name) : null;
     // (the cache of nodes gets those alone that have several children: a write into it takes long, and the others are found from these)
-    const made = new NodeIs(session, number, kind, realm, its, count === 0 ? null : endsOf(kind));
+    const made = new NodeIs(session, number, kind, realm, its, endsOf(kind));
     makerOf(session, number, kind, realm, its).make(made);
     made.enter(this);
     return made;
@@ -225,6 +225,18 @@ class NodeIs {
   link(next) {
     this.fresh();
     next.fresh();
+    this.next = next;
+    next.previous = this;
+  }
+
+  /** Keeps its first child, or the sibling that follows it, which is read after it; both have links of now. */
+  beginWith(child) {
+    this.first = child;
+    child.previous = null;
+  }
+
+  goOnWith(next) {
+    if (this.previous === null) remember(this.above);
     this.next = next;
     next.previous = this;
   }
@@ -471,51 +483,41 @@ function isGoingOn(its) {
 function readAhead(its, parent, number) {
   const { session } = parent;
   readAtOnce = isGoingOn(its) ? Math.min(4 * readAtOnce, MOST_AT_ONCE) : FEWEST;
-  check(native.nodesFrom(session.index, number, readAtOnce));
-  return linked(parent, out[0] >>> 2, out[1], out[2] === 1);
+  check(native.nodesFrom(session.index, parent.number, number, readAtOnce));
+  return linked(parent, out[0] >>> 2, out[1], out[2] === NONE);
 }
 
-/** The columns of a row: a node's number, its kind, how deep it is, the number of its name, and how many children it has. */
-const [NUMBER, KIND, DEPTH, NAME, COUNT, ROW] = [0, 1, 2, 3, 4, 5];
+/** The columns of a row: a node's number, its parent's, its kind, and the number of its name. */
+const [NUMBER, PARENT, KIND, NAME, ROW] = [0, 1, 2, 3, 4];
 
-/** Makes objects of rows in tree order, and links them; the first is answered. */
+/** Makes objects of rows in tree order, and links them; returns the first one's state. All links are then those of now. */
 function linked(parent, from, count, isWhole) {
   parent.fresh();
   let first = null;
   let last = null;
-  let level = -1;
   for (let at = from; at < from + count; at += ROW) {
-    const depth = words[at + DEPTH];
-    if (depth <= level) last = up(last, level, depth);
-    const above = depth > level ? (last ?? parent) : last.above;
-    const its = above.adopted(words[at + NUMBER], words[at + KIND], words[at + NAME], words[at + COUNT]);
-    // (all links are those of now)
-    if (depth <= level) {
-      last.next = its;
-      its.previous = last;
-      if (last.previous === null) remember(above);
-    } else if (depth > 0) {
-      above.first = its;
-      its.previous = null;
-    }
+    const isBelow = last !== null && last.number === words[at + PARENT];
+    if (last !== null && !isBelow) last = up(last, words[at + PARENT]);
+    const above = isBelow ? last : (last?.above ?? parent);
+    const its = above.adopted(words[at + NUMBER], words[at + KIND], words[at + NAME]);
+    if (isBelow) above.beginWith(its);
+    else if (last !== null) last.goOnWith(its);
     first ??= its;
     last = its;
-    level = depth;
   }
   // (which has both forgotten once the program waits)
   if (recent === null) recentNow();
   frontier = last;
-  if (isWhole) up(last, level, -1);
+  if (isWhole) up(last, parent.number).trail();
   return first;
 }
 
-/** Goes from a node at a level up to one at a depth, and keeps that each which is left is a last child. */
-function up(its, level, depth) {
+/** Goes from a node without children up to a child of a parent, by the parent's number; keeps that each node which it leaves is a last child. */
+function up(its, parent) {
   let it = its;
-  for (let at = level; at > depth; at--) {
+  for (it.first = it.last = null; it.above.number !== parent; it = it.above) {
     it.next = null;
     it.above.last = it;
-    it = it.above;
   }
   return it;
 }
