@@ -2,7 +2,7 @@
 //!
 //! Each adjusts live ranges, moves iterators, adds transient registrations and queues its records, as the standard says.
 
-ghost use Rattle.std.specs.Prelude.{◌≡◌, [], ◌∷◌, true, false, None, OnOk};
+ghost use Rattle.std.specs.Prelude.{◌≡◌, [], ◌∷◌, true, false, None, OnOk, OnErr};
 ghost use Rattle.std.specs.Option.{ForSome};
 ghost use Rattle.std.specs.Result.{IfErr};
 ghost use Rattle.dom_model.specs.declared.Kind.TheVariants.{Document};
@@ -14,7 +14,7 @@ ghost use Rattle.dom_model.specs.MutationAlgorithms.Editing.{remove, insert, pre
 ghost use Rattle.dom_model.specs.MutationAlgorithms.Insertable.{IsInsertable};
 ghost use Rattle.dom_model.specs.TokenText.Edits.{insert_edits, pre_insert_edits, append_edits, replace_edits, remove_edits, replace_all_edits, adopt_edits};
 ghost use Rattle.dom_edit.specs.Insertion.{IsUnreferred, HasMoreToAsk};
-ghost use Rattle.dom_edit.specs.Whole.{IsWhole, Follows, Moves};
+ghost use Rattle.dom_edit.specs.Whole.{IsWhole, Follows};
 ghost use Rattle.dom_edit.specs.KeptNodes.{KeepsNodes};
 ghost use Rattle.dom_edit.specs.OlderNodes.{LeavesOlder, IsFragmentOrRoot};
 ghost use Rattle.dom_edit.specs.Markers.{StandByEdits};
@@ -277,8 +277,8 @@ impl World {
             ≡ None) }
         ensures removed { OnOk result (Follows self.old self.new (remove false child)) }
         ensures markers { OnOk result (StandByEdits self.old self.new (remove_edits child)) }
-        ensures moved { check_remove_child self.old.tree.forest parent child ≡ None →
-            Moves self.old self.new (remove false child) }
+        ensures stays { OnErr result (self.new ≡ record self.old
+            { observers = self.new.observers }) }
         ensures refused { IfErr result (λ e. IsRefused e
             (check_remove_child self.old.tree.forest parent child) self.old self.new) }
         ensures kept { KeepsNodes self.old self.new }
@@ -293,12 +293,13 @@ impl World {
 
     /// Removes a node from its parent; a root stays as it is (remove).
     ///
-    /// Takes memory for observers alone. After an error the node has been removed, and some observers may not be notified.
+    /// Takes memory for observers alone. After an error the node is where it was, and some observers may have a record of its removal.
     pub fn remove(&mut self, node: NodeId) -> Result<(), AllocError>
         requires whole { IsWhole self.old }
         requires held { HasNode self.old.tree.forest node }
         ensures removed { OnOk result (Follows self.old self.new (remove false node)) }
-        ensures moved { Moves self.old self.new (remove false node) }
+        ensures stays { OnErr result (self.new ≡ record self.old
+            { observers = self.new.observers }) }
         ensures markers { OnOk result (StandByEdits self.old self.new (remove_edits node)) }
         ensures kept { KeepsNodes self.old self.new }
         ensures whole { IsWhole self.new }
