@@ -1,6 +1,6 @@
 //! Inserting nodes, wherever they are now (DOM Standard, "Mutation algorithms", insert).
 
-ghost use Rattle.std.specs.Prelude.{◌≡◌, [], ◌∷◌, None, IfOk, OnOk, true, false};
+ghost use Rattle.std.specs.Prelude.{◌≡◌, [], ◌∷◌, None, IfOk, OnOk, OnErr, true, false};
 ghost use Rattle.dom_model.specs.declared.Kind.TheVariants.{DocumentFragment};
 ghost use Rattle.dom_model.specs.Forests.Forest.{HasNode, parent_of, children_of, ancestors};
 ghost use Rattle.dom_model.specs.Forests.Nodes.{is_of_kind};
@@ -139,6 +139,8 @@ impl World {
         requires ready { IsOpen self.old.tree.forest parent child nodes.now }
         ensures inserted { OnOk result (Follows self.old self.new
             (insert_all suppressed parent child nodes.now)) }
+        ensures stays { OnErr result (self.new ≡ record self.old
+            { observers = self.new.observers }) }
         ensures left { child ≡ None → LeavesOlder (parent ∷ nodes.now) self.old self.new }
         ensures kept { KeepsNodes self.old self.new }
         ensures whole { IsWhole self.new }
@@ -151,8 +153,9 @@ impl World {
         let before = child;
         let after = child;
         let previous = previous_to(&self.tree, parent, before);
+        self.queue_tree_record(parent, nodes, &[], previous, child)?;
         self.place(parent, after, nodes);
-        self.queue_tree_record(parent, nodes, &[], previous, child)
+        Ok(())
     }
 
     // Reserves room for blocks of a parent's children, if there are many. The world's value stays.
