@@ -14,7 +14,7 @@ ghost use Rattle.dom_model.specs.MutationAlgorithms.Editing.{remove, insert, pre
 ghost use Rattle.dom_model.specs.MutationAlgorithms.Insertable.{IsInsertable};
 ghost use Rattle.dom_model.specs.TokenText.Edits.{insert_edits, pre_insert_edits, append_edits, replace_edits, remove_edits, replace_all_edits, adopt_edits};
 ghost use Rattle.dom_edit.specs.Insertion.{IsUnreferred, HasMoreToAsk};
-ghost use Rattle.dom_edit.specs.Whole.{IsWhole, Follows};
+ghost use Rattle.dom_edit.specs.Whole.{IsWhole, IsUnobserved, Follows};
 ghost use Rattle.dom_edit.specs.KeptNodes.{KeepsNodes};
 ghost use Rattle.dom_edit.specs.OlderNodes.{LeavesOlder, IsFragmentOrRoot};
 ghost use Rattle.dom_edit.specs.Markers.{StandByEdits};
@@ -51,6 +51,7 @@ impl World {
             (pre_insert_edits node parent child)) }
         ensures refused { IfErr result (λ e. IsRefused e
             (check_insert self.old.tree.forest parent node child) self.old self.new) }
+        ensures unchanged { IsUnobserved self.old → OnErr result (self.new ≡ self.old) }
         ensures kept { KeepsNodes self.old self.new }
         ensures whole { IsWhole self.new }
     {
@@ -78,6 +79,7 @@ impl World {
             (pre_insert_edits node parent child)) }
         ensures refused { IfErr result (λ e. IsRefused e
             (check_insert self.old.tree.forest parent node child) self.old self.new) }
+        ensures unchanged { IsUnobserved self.old → OnErr result (self.new ≡ self.old) }
         ensures kept { KeepsNodes self.old self.new }
         ensures whole { IsWhole self.new }
     {
@@ -104,6 +106,7 @@ impl World {
         ensures inserted { OnOk result (Follows self.old self.new (pre_insert node parent child)) }
         ensures markers { OnOk result (StandByEdits self.old self.new
             (pre_insert_edits node parent child)) }
+        ensures unchanged { IsUnobserved self.old → OnErr result (self.new ≡ self.old) }
         ensures kept { KeepsNodes self.old self.new }
         ensures whole { IsWhole self.new }
     {
@@ -127,6 +130,7 @@ impl World {
             (insert false node parent child)) }
         ensures markers { OnOk result (StandByEdits self.old self.new
             (insert_edits node parent child)) }
+        ensures unchanged { IsUnobserved self.old → OnErr result (self.new ≡ self.old) }
         ensures kept { KeepsNodes self.old self.new }
         ensures whole { IsWhole self.new }
     {
@@ -174,6 +178,7 @@ impl World {
         ensures markers { OnOk result (StandByEdits self.old self.new (append_edits node parent)) }
         ensures refused { IfErr result (λ e. IsRefused e
             (check_insert self.old.tree.forest parent node None) self.old self.new) }
+        ensures unchanged { IsUnobserved self.old → OnErr result (self.new ≡ self.old) }
         ensures kept { KeepsNodes self.old self.new }
         ensures whole { IsWhole self.new }
     {
@@ -281,6 +286,7 @@ impl World {
             { observers = self.new.observers }) }
         ensures refused { IfErr result (λ e. IsRefused e
             (check_remove_child self.old.tree.forest parent child) self.old self.new) }
+        ensures unchanged { IsUnobserved self.old → OnErr result (self.new ≡ self.old) }
         ensures kept { KeepsNodes self.old self.new }
         ensures whole { IsWhole self.new }
     {
@@ -301,6 +307,7 @@ impl World {
         ensures stays { OnErr result (self.new ≡ record self.old
             { observers = self.new.observers }) }
         ensures markers { OnOk result (StandByEdits self.old self.new (remove_edits node)) }
+        ensures unchanged { IsUnobserved self.old → OnErr result (self.new ≡ self.old) }
         ensures kept { KeepsNodes self.old self.new }
         ensures whole { IsWhole self.new }
     {
@@ -378,6 +385,7 @@ impl World {
         ensures markers { OnOk result (StandByEdits self.old self.new (adopt_edits node)) }
         ensures refused { IfErr result (λ e. IsRefused e (check_adopt self.old.tree.forest node)
             self.old self.new) }
+        ensures unchanged { IsUnobserved self.old → OnErr result (self.new ≡ self.old) }
         ensures kept { KeepsNodes self.old self.new }
         ensures whole { IsWhole self.new }
     {

@@ -1,6 +1,6 @@
 //! Inserting nodes, wherever they are now (DOM Standard, "Mutation algorithms", insert).
 
-ghost use Rattle.std.specs.Prelude.{◌≡◌, [], ◌∷◌, None, IfOk, OnOk, OnErr, true, false};
+ghost use Rattle.std.specs.Prelude.{◌≡◌, [], ◌∷◌, None, IfOk, IsOk, OnOk, OnErr, true, false};
 ghost use Rattle.dom_model.specs.declared.Kind.TheVariants.{DocumentFragment};
 ghost use Rattle.dom_model.specs.Forests.Forest.{HasNode, parent_of, children_of, ancestors};
 ghost use Rattle.dom_model.specs.Forests.Nodes.{is_of_kind};
@@ -8,7 +8,7 @@ ghost use Rattle.dom_model.specs.MutationAlgorithms.Editing.{tree_record, remove
 ghost use Rattle.dom_model.specs.MutationAlgorithms.Insertable.{IsInsertable};
 ghost use Rattle.dom_observe.specs.ObservedNodes.{NamesNoneOf};
 ghost use Rattle.dom_edit.specs.Insertion.{AreThere, IsUnreferred, ComesIn, brought, IsOpen};
-ghost use Rattle.dom_edit.specs.Whole.{IsWhole, Follows};
+ghost use Rattle.dom_edit.specs.Whole.{IsWhole, IsUnobserved, Follows};
 ghost use Rattle.dom_edit.specs.KeptNodes.{KeepsNodes};
 ghost use Rattle.dom_edit.specs.OlderNodes.{LeavesOlder, IsFragmentOrRoot};
 
@@ -86,6 +86,8 @@ impl World {
         requires whole { IsWhole self.old }
         requires held { AreThere self.old.tree.forest nodes.now }
         ensures removed { OnOk result (Follows self.old self.new (remove_all nodes.now)) }
+        ensures succeeds { IsUnobserved self.old → IsOk result }
+        ensures unobserved { IsUnobserved self.old → self.new.observers ≡ self.old.observers }
         ensures kept { KeepsNodes self.old self.new }
         ensures whole { IsWhole self.new }
     {
@@ -120,6 +122,8 @@ impl World {
             (tree_record node [] nodes.now None None)) }
         ensures quiet { NamesNoneOf (ancestors node self.old.tree.forest) self.old.observers →
             self.new ≡ self.old }
+        ensures succeeds { IsUnobserved self.old → IsOk result }
+        ensures unobserved { IsUnobserved self.old → self.new ≡ self.old }
         ensures kept { KeepsNodes self.old self.new }
         ensures whole { IsWhole self.new }
     {
@@ -141,6 +145,7 @@ impl World {
             (insert_all suppressed parent child nodes.now)) }
         ensures stays { OnErr result (self.new ≡ record self.old
             { observers = self.new.observers }) }
+        ensures succeeds { IsUnobserved self.old → IsOk result }
         ensures left { child ≡ None → LeavesOlder (parent ∷ nodes.now) self.old self.new }
         ensures kept { KeepsNodes self.old self.new }
         ensures whole { IsWhole self.new }
@@ -188,6 +193,7 @@ impl World {
         requires alone { is_of_kind DocumentFragment self.old.tree.forest node ≡ false }
         ensures inserted { OnOk result (Follows self.old self.new
             (insert suppressed node parent child)) }
+        ensures unchanged { IsUnobserved self.old → OnErr result (self.new ≡ self.old) }
         ensures left { child ≡ None → parent_of self.old.tree.forest node ≡ None →
             LeavesOlder (parent ∷ node ∷ []) self.old self.new }
         ensures kept { KeepsNodes self.old self.new }
@@ -213,6 +219,7 @@ impl World {
         requires nodes { nodes.now ≡ children_of self.old.tree.forest node }
         ensures inserted { OnOk result (Follows self.old self.new
             (insert suppressed node parent child)) }
+        ensures unchanged { IsUnobserved self.old → OnErr result (self.new ≡ self.old) }
         ensures kept { KeepsNodes self.old self.new }
         ensures whole { IsWhole self.new }
     {
@@ -267,6 +274,7 @@ impl World {
         requires incoming { ComesIn self.old.tree.forest node incoming.now }
         ensures inserted { OnOk result (Follows self.old self.new
             (insert suppressed node parent child)) }
+        ensures unchanged { IsUnobserved self.old → OnErr result (self.new ≡ self.old) }
         ensures kept { KeepsNodes self.old self.new }
         ensures whole { IsWhole self.new }
     {

@@ -43,3 +43,9 @@ returns-clause-removed c =
     let taken : Follows mid new (taken_out n p) = it_is _ (parent_of mid.tree.forest n) p still c.take_out-2.ensures.taken in
     let noted = rw (c.in-Some.ensures.previous, c.in-Some.ensures.next) at c.in_ok-note_removal.ensures.noted in
     rw c.if-suppressed.false (follows-noted v mid new n p c.requires.whole e noted taken)
+
+pub returns-then-suppressed-clause-unobserved : goal.returns-then-suppressed-clause-unobserved
+returns-then-suppressed-clause-unobserved c none = c.take_out.ensures.observers ∙ ap (λ (w : World). w.observers) (c.make_transients.ensures.unobserved none)
+
+pub returns-clause-unobserved : goal.returns-clause-unobserved
+returns-clause-unobserved c none = c.take_out-2.ensures.observers ∙ ap (λ (w : World). w.observers) (c.note_removal.ensures.unobserved none)
