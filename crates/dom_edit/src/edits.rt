@@ -229,6 +229,7 @@ impl World {
             (replace_edits child node parent)) }
         ensures refused { IfErr result (λ e. IsRefused e
             (check_replace self.old.tree.forest parent node child) self.old self.new) }
+        ensures unchanged { IsUnobserved self.old → OnErr result (self.new ≡ self.old) }
         ensures kept { KeepsNodes self.old self.new }
         ensures whole { IsWhole self.new }
     {
@@ -255,6 +256,7 @@ impl World {
             (replace_edits child node parent)) }
         ensures refused { IfErr result (λ e. IsRefused e
             (check_replace self.old.tree.forest parent node child) self.old self.new) }
+        ensures unchanged { IsUnobserved self.old → OnErr result (self.new ≡ self.old) }
         ensures kept { KeepsNodes self.old self.new }
         ensures whole { IsWhole self.new }
     {
@@ -333,6 +335,7 @@ impl World {
             (replace_all_edits node parent)) }
         ensures refused { IfErr result (λ e. IsRefused e
             (check_only_child self.old.tree.forest parent node) self.old self.new) }
+        ensures unchanged { IsUnobserved self.old → OnErr result (self.new ≡ self.old) }
         ensures kept { KeepsNodes self.old self.new }
         ensures whole { IsWhole self.new }
     {
@@ -359,6 +362,7 @@ impl World {
         ensures replaced { OnOk result (Follows self.old self.new (replace_all node parent)) }
         ensures markers { OnOk result (StandByEdits self.old self.new
             (replace_all_edits node parent)) }
+        ensures unchanged { IsUnobserved self.old → OnErr result (self.new ≡ self.old) }
         ensures kept { KeepsNodes self.old self.new }
         ensures whole { IsWhole self.new }
     {

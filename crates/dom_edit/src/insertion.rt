@@ -146,6 +146,7 @@ impl World {
         ensures stays { OnErr result (self.new ≡ record self.old
             { observers = self.new.observers }) }
         ensures succeeds { IsUnobserved self.old → IsOk result }
+        ensures unobserved { IsUnobserved self.old → self.new.observers ≡ self.old.observers }
         ensures left { child ≡ None → LeavesOlder (parent ∷ nodes.now) self.old self.new }
         ensures kept { KeepsNodes self.old self.new }
         ensures whole { IsWhole self.new }
@@ -164,19 +165,21 @@ impl World {
     }
 
     // Reserves room for blocks of a parent's children, if there are many. The world's value stays.
-    fn reserve_child(&mut self, parent: NodeId) -> Result<(), AllocError>
+    //
+    // Without memory for blocks, an index among the children is found by a longer walk.
+    fn reserve_child(&mut self, parent: NodeId)
         requires { HasNode self.old.tree.forest parent }
         ensures { self.new ≡ self.old }
     {
-        self.tree.reserve_blocks(parent)
+        let _ = self.tree.reserve_blocks(parent);
     }
 
-    // The same for so many children more.
-    fn reserve_children(&mut self, parent: NodeId, more: usize) -> Result<(), AllocError>
+    // Does so for `more` children.
+    fn reserve_children(&mut self, parent: NodeId, more: usize)
         requires { HasNode self.old.tree.forest parent }
         ensures { self.new ≡ self.old }
     {
-        self.tree.reserve_blocks_for(parent, more)
+        let _ = self.tree.reserve_blocks_for(parent, more);
     }
 
     /// Inserts a node that is no fragment under a parent, before a child of it or last.
@@ -193,13 +196,14 @@ impl World {
         requires alone { is_of_kind DocumentFragment self.old.tree.forest node ≡ false }
         ensures inserted { OnOk result (Follows self.old self.new
             (insert suppressed node parent child)) }
-        ensures unchanged { IsUnobserved self.old → OnErr result (self.new ≡ self.old) }
+        ensures succeeds { IsUnobserved self.old → IsOk result }
+        ensures unobserved { IsUnobserved self.old → self.new.observers ≡ self.old.observers }
         ensures left { child ≡ None → parent_of self.old.tree.forest node ≡ None →
             LeavesOlder (parent ∷ node ∷ []) self.old self.new }
         ensures kept { KeepsNodes self.old self.new }
         ensures whole { IsWhole self.new }
     {
-        self.reserve_child(parent)?;
+        self.reserve_child(parent);
         self.remove_node(node, false)?;
         self.insert_all(suppressed, parent, child, &[node])
     }
@@ -219,14 +223,15 @@ impl World {
         requires nodes { nodes.now ≡ children_of self.old.tree.forest node }
         ensures inserted { OnOk result (Follows self.old self.new
             (insert suppressed node parent child)) }
-        ensures unchanged { IsUnobserved self.old → OnErr result (self.new ≡ self.old) }
+        ensures succeeds { IsUnobserved self.old → IsOk result }
+        ensures unobserved { IsUnobserved self.old → self.new.observers ≡ self.old.observers }
         ensures kept { KeepsNodes self.old self.new }
         ensures whole { IsWhole self.new }
     {
         if nodes.is_empty() {
             return Ok(());
         }
-        self.reserve_children(parent, nodes.len())?;
+        self.reserve_children(parent, nodes.len());
         self.remove_all(nodes)?;
         self.queue_emptied(node, nodes)?;
         self.insert_all(suppressed, parent, child, nodes)
@@ -254,7 +259,7 @@ impl World {
         if nodes.is_empty() {
             return Ok(());
         }
-        self.reserve_children(parent, nodes.len())?;
+        self.reserve_children(parent, nodes.len());
         self.remove_all_unreferred(node, nodes)?;
         self.queue_emptied(node, nodes)?;
         self.insert_all(false, parent, child, nodes)
@@ -274,7 +279,8 @@ impl World {
         requires incoming { ComesIn self.old.tree.forest node incoming.now }
         ensures inserted { OnOk result (Follows self.old self.new
             (insert suppressed node parent child)) }
-        ensures unchanged { IsUnobserved self.old → OnErr result (self.new ≡ self.old) }
+        ensures succeeds { IsUnobserved self.old → IsOk result }
+        ensures unobserved { IsUnobserved self.old → self.new.observers ≡ self.old.observers }
         ensures kept { KeepsNodes self.old self.new }
         ensures whole { IsWhole self.new }
     {
