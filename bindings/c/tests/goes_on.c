@@ -162,7 +162,7 @@ static uint8_t edit(int number)
     case 14: return hp_replace_data(&session, TEXT, 4, 2, hp_text_literal(", and more of it than there was room for"));
     case 15: return hp_set_attribute(&session, 2, hp_name("title"), hp_text_literal("long"));
     case 16: return hp_set_attribute(&session, 2, hp_name("language"), hp_text_literal("another"));
-    case 17: return hp_toggle_attribute(&session, 2, hp_name("hidden"), HP_TOGGLE, &is_there);
+    case 17: return hp_toggle_attribute(&session, 2, hp_name("hidden"), 2, &is_there);
     default: return edit_tree(number);
     }
 }

@@ -271,16 +271,14 @@ impl Session {
             return Err(OutOfMemory::Ended);
         }
         let is_unobserved = self.world.observers.is_idle();
-        match edit_tree(&mut self.world, self.alloc, command) {
-            Ok(reply) => Ok(reply),
-            Err(_) => {
-                if is_unobserved {
-                    return Err(OutOfMemory::Refused);
-                }
-                self.ended = true;
-                Err(OutOfMemory::Ended)
+        let Ok(reply) = edit_tree(&mut self.world, self.alloc, command) else {
+            if is_unobserved {
+                return Err(OutOfMemory::Refused);
             }
-        }
+            self.ended = true;
+            return Err(OutOfMemory::Ended);
+        };
+        Ok(reply)
     }
 
     /// Moves an iterator on as `apply` does, with fewer arguments to pass.
