@@ -76,7 +76,7 @@ steps-spared c k s on kept bounds = record {
 }
 
 -- a session that has ended, which a command that leaves it open does only if it had ended before
-pub steps-ended : (c : Result Command ℕ) (k : HandleState) (s : SessionView) → s.bounds ≡ k.session.bounds → (leaves_open c ≡ true → k.session.ended ≡ false → true ≡ k.ended) → StepsState c k (at_end (with_session k s)) out_of_memory
+pub steps-ended : (c : Result Command ℕ) (k : HandleState) (s : SessionView) → s.bounds ≡ k.session.bounds → (leaves_open k.session c ≡ true → k.session.ended ≡ false → true ≡ k.ended) → StepsState c k (at_end (with_session k s)) out_of_memory
 steps-ended c k s bounds going = record {
   ends = refl;
   goes_on = going;

@@ -116,7 +116,8 @@ impl HandleState {
         }
         match self.session.edit(command) {
             Ok(reply) => self.note(reply),
-            Err(Ended) => self.end(),
+            Err(OutOfMemory::Refused) => HP_OUT_OF_MEMORY,
+            Err(OutOfMemory::Ended) => self.end(),
         }
     }
 

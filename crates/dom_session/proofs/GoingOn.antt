@@ -1,5 +1,6 @@
 -- What is as it was if memory was refused, and for which commands it is.
-use Rattle.std.proofs.Common.{◌≡◌, Bool, true, false, Result, Ok, Err, OnErr, refl, sym, subst, ap}
+use Rattle.std.proofs.Common.{◌≡◌, ◌==◌, ◌||◌, Bool, true, false, List, [], length, Result, Ok, Err, OnErr, refl, sym, subst, ap}
+use Rattle.std.proofs.lemmas.{Bool.eqb-true, List.nil_from_length}
 use Rattle.dom_model.specs.Commands.Command.{Command}
 use Rattle.dom_model.specs.Commands.Answer.{Bounds}
 use Rattle.dom_observe.specs.Watchers.{Watches}
@@ -135,3 +136,11 @@ going-traversing (ReleaseWalker walker) = refl
 
 pub going-asked : (c : Command) → is_question c ≡ true → goes_on c ≡ true
 going-asked c asked = rw asked refl
+
+-- nobody observes if no node is listed
+pub none-listed : {A : Type 0} (xs : List A) → (length xs == 0) ≡ true → xs ≡ []
+none-listed xs e = nil_from_length xs (eqb-true (length xs) 0 e)
+
+pub either-way : {P : Type 0} (a b : Bool) → (a || b) ≡ true → (a ≡ true → P) → (b ≡ true → P) → P
+either-way true b e first second = first refl
+either-way false b e first second = second e

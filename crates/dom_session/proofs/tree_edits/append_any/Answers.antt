@@ -17,6 +17,7 @@ returns-in-Ok c =
           (λ w shown. answer-append_child old b p n w None shown hp hn c.in-Ok.ensures.allowed)
           c.in-Ok.ensures.appended c.append.ensures.whole);
       left = tt;
+      unobserved = λ none. tt;
     }
 
 pub returns-in-Err : goal.returns-in-Err
@@ -30,4 +31,5 @@ returns-in-Err c =
       step = steps-refused-briefly old c.append.new.self (AppendChild p n) c.in-Err.refusal (check_insert old.tree.forest p n None) c.brief_to.result c.brief_to.ensures c.in-Err.ensures.refused
           (λ b e named w shown. answer-append_child old b p n w (Some e) shown hp hn named);
       left = on_err c.brief_to.result (kept_nodes old c.append.new.self c.append.ensures.kept c.append.ensures.whole);
+      unobserved = λ none. on_err c.brief_to.result (c.in-Err.ensures.unchanged none);
     }

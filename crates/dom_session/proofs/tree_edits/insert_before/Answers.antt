@@ -21,6 +21,7 @@ returns-in-Ok c =
           (λ w shown. answer-insert_before old b p n child w None shown hp hn hc c.in-Ok.ensures.allowed)
           c.in-Ok.ensures.inserted c.insert_before.ensures.whole);
       left = tt;
+      unobserved = λ none. tt;
     }
 
 pub returns-in-Err : goal.returns-in-Err
@@ -37,4 +38,5 @@ returns-in-Err c =
       step = steps-refused-briefly old c.insert_before.new.self (InsertBefore p n child) c.in-Err.refusal (check_insert old.tree.forest p n child) c.brief_to.result c.brief_to.ensures c.in-Err.ensures.refused
           (λ b e named w shown. answer-insert_before old b p n child w (Some e) shown hp hn hc named);
       left = on_err c.brief_to.result (kept_nodes old c.insert_before.new.self c.insert_before.ensures.kept c.insert_before.ensures.whole);
+      unobserved = λ none. on_err c.brief_to.result (c.in-Err.ensures.unchanged none);
     }

@@ -19,6 +19,7 @@ returns-in-Ok c =
           (λ w shown. answer-replace_child old b p n child w None shown hp hn hc c.in-Ok.ensures.allowed)
           c.in-Ok.ensures.replaced c.replace.ensures.whole);
       left = tt;
+      unobserved = λ none. tt;
     }
 
 pub returns-then-not-holds : goal.returns-then-not-holds
@@ -37,4 +38,5 @@ returns-in-Err c =
       step = steps-refused-briefly old c.replace.new.self (ReplaceChild p n child) c.in-Err.refusal (check_replace old.tree.forest p n child) c.brief_to.result c.brief_to.ensures c.in-Err.ensures.refused
           (λ b e named w shown. answer-replace_child old b p n child w (Some e) shown hp hn hc named);
       left = on_err c.brief_to.result (kept_nodes old c.replace.new.self c.replace.ensures.kept c.replace.ensures.whole);
+      unobserved = λ none. on_err c.brief_to.result (c.in-Err.ensures.unchanged none);
     }

@@ -21,6 +21,7 @@ returns-then-not-may_be_parent c =
     record {
       step = λ b. step-stays b (ReplaceChildren p n) (Brief (Dom TypeError)) old (λ w shown. refused-parent old b p n w shown hp kind hn);
       left = tt;
+      unobserved = λ none. tt;
     }
 
 pub returns-in-Ok : goal.returns-in-Ok
@@ -38,6 +39,7 @@ returns-in-Ok c =
           (λ w shown. answer-replace_children old b p w shown hp kind n hn c.in-Ok.ensures.allowed)
           c.in-Ok.ensures.replaced c.replace_children.ensures.whole;
       left = tt;
+      unobserved = λ none. tt;
     }
 
 pub returns-in-Err : goal.returns-in-Err
@@ -54,4 +56,5 @@ returns-in-Err c =
       step = steps-refused-briefly old c.replace_children.new.self (ReplaceChildren p n) c.in-Err.refusal (check_only_child old.tree.forest p n) c.brief_to.result c.brief_to.ensures c.in-Err.ensures.refused
           (λ b e named w shown. refused-replace_children old b p w shown hp kind n e hn named);
       left = on_err c.brief_to.result (kept_nodes old c.replace_children.new.self c.replace_children.ensures.kept c.replace_children.ensures.whole);
+      unobserved = λ none. on_err c.brief_to.result (c.in-Err.ensures.unchanged none);
     }
