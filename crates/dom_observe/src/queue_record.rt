@@ -95,6 +95,17 @@ fn only_listener(
     only
 }
 
+// Returns whether an observer is the last in the pending list.
+#[inline(always)]
+fn is_last(pending: &IndexSet<ObserverId>, observer: ObserverId) -> bool
+    ensures { result ≡ true → with_last pending.now.keys observer ≡ pending.now.keys }
+{
+    match pending.last() {
+        Some(last) => *last == observer,
+        None => false,
+    }
+}
+
 // Adds an observer to the pending list, unless it is in it.
 #[inline(always)]
 pub(crate) fn mark_pending(
@@ -104,10 +115,8 @@ pub(crate) fn mark_pending(
     ensures ok { OnOk result (pending.new.keys ≡ with_last pending.old.keys observer) }
     ensures err { OnErr result (pending.new.keys ≡ pending.old.keys) }
 {
-    if let Some(last) = pending.last() {
-        if *last == observer {
-            return Ok(());
-        }
+    if is_last(pending, observer) {
+        return Ok(());
     }
     pending.insert(observer)?;
     Ok(())
@@ -120,12 +129,9 @@ fn mark_pending_reserved(pending: &mut IndexSet<ObserverId>, observer: ObserverI
     ensures keys { pending.new.keys ≡ with_last pending.old.keys observer }
     ensures room { spare pending.old ≤ spare pending.new + 1 }
 {
-    if let Some(last) = pending.last() {
-        if *last == observer {
-            return;
-        }
+    if !is_last(pending, observer) {
+        pending.insert(observer).unwrap();
     }
-    pending.insert(observer).unwrap();
 }
 
 // Adds the interested observers to the pending list in order, within reserved room. It takes no memory.
