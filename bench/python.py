@@ -238,7 +238,8 @@ def over_pages(count):
     yield "rows with name, attributes and data", document.tree, lambda: [(it, it.tag, tuple(it.attrib.items()), it.text, it.tail) for it in tree.iter()], None
     yield "a deep copy", lambda: document.document_element.clone_node(True), lambda: copy.deepcopy(tree), None
     links, their_links = document.get_elements_by_tag_name("b"), list(tree.iter("b"))
-    yield "a text of each b", lambda: [it.text_content for it in links], lambda: [it.text for it in their_links], None
+    yield "a text of each b", lambda: [it.text for it in links], lambda: [it.text for it in their_links], None
+    yield "texts of all b; there a text of each", lambda: document.session.text_content_of(links), lambda: [it.text for it in their_links], None
     yield "serialize XML", lambda: h.xml.serialize(document), lambda: etree.tostring(tree, encoding="unicode"), lambda: their.toxml()
     yield "serialize XML, behind an edit", lambda: h.xml.serialize(edited()), lambda: etree.tostring(their_edited(), encoding="unicode"), None
     yield "serialize HTML", lambda: h.html.serialize(html_document), lambda: etree.tostring(html_tree, encoding="unicode", method="html"), None

@@ -55,8 +55,9 @@ def module(name, path):
 
 
 def kit():
-    """Returns the kit's name and version."""
-    return subprocess.run(["rt", "version"], stdout=subprocess.PIPE, text=True, check=True).stdout.strip()
+    """Returns the kit's name and its logic. Releases of the kit that share a logic make the same code, so the release is left out."""
+    told = subprocess.run(["rt", "version"], stdout=subprocess.PIPE, text=True, check=True).stdout.strip()
+    return f"rattle-kit {told[told.index('logic') :]}"
 
 
 def words_of(name, target, code, to):

@@ -98,7 +98,6 @@ def package(room):
     core = f"{folder}/core"
     words = [COMPILER, "-std=c99", "-O1", "-fPIC", "-shared", "-fvisibility=hidden", f"-I{PYTHON}/usr/include/python3.11", f"-I{PYTHON}/usr/include"]
     words += [f"-I{room}/library", f"-I{core}", f"{core}/core.c", f"{room}/library/libhuckleport.a", "-Wl,--exclude-libs,ALL", "-Wl,-z,noexecstack"]
-    words += [f"-Wl,--wrap={it}" for it in ("malloc", "realloc", "free")]
     if not passes(*words, "-o", f"{folder}/huckleport/_core.abi3.so"):
         return False
     python = [QEMU[0], "-L", PYTHON, f"{PYTHON}/usr/bin/python3.11"]

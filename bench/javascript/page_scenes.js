@@ -20,14 +20,22 @@ function tableOf({ document }, count) {
   return { document: made, table, cells };
 }
 
+const tables = new WeakMap();
+
+/** The table of a window, made once: each run of a scene that leaves it as it is has the same one. */
+function tableOnce(window, count) {
+  if (!tables.has(window)) tables.set(window, tableOf(window, count));
+  return tables.get(window);
+}
+
 const ROUNDS = 20;
 
 /** Makes a scene that queries a selector ROUNDS times, over a table that stays, or with an edit before each query. */
-const asked = (selector, edit = () => undefined) => (window, count) => {
-  const { document, cells } = tableOf(window, count);
+const asked = (selector, edit = null) => (window, count) => {
+  const { document, cells } = edit ? tableOf(window, count) : tableOnce(window, count);
   return () => {
     for (let round = 0; round < ROUNDS; round++) {
-      edit(document, cells, round);
+      edit?.(document, cells, round);
       if (document.querySelectorAll(selector).length === 0) throw new Error("nothing was found");
     }
   };
@@ -213,8 +221,9 @@ export const PAGE_SCENES = {
   },
   "first walk": {
     says: "a node of five fresh copies visited once by firstChild, nextSibling and parentNode",
+    share: 0.5,
     ready(window, count) {
-      const { table } = tableOf(window, count / 10);
+      const { table } = tableOnce(window, count / 10);
       const copies = Array.from({ length: 5 }, () => table.cloneNode(true));
       return () => {
         for (const copy of copies) if (walkOnce(copy) < count / 5) throw new Error("a node is missing");

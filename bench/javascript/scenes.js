@@ -94,6 +94,7 @@ export const SCENES = {
   },
   reading: {
     says: "a node visited by firstChild, nextSibling and parentNode",
+    share: 0.25,
     ready(window, count) {
       const { root } = forest(window, count);
       return () => {
@@ -136,6 +137,7 @@ export const SCENES = {
   },
   iterating: {
     says: "a step of a NodeIterator over elements",
+    share: 0.25,
     ready(window, count) {
       const { document, root } = forest(window, count);
       const iterator = document.createNodeIterator(root, ELEMENTS);

@@ -24,6 +24,7 @@ PACKAGES = {
     "w3c-xmlserializer": "serializing XML",
     "typescript": "comments of the declarations",
     "jsdom": "the page beside jsdom",
+    "nwsapi": "another library's selectors over a page",
     "preact": "preact over a page",
     "react-dom": "react over a page",
     "d3-selection": "d3 over a page",

@@ -17,8 +17,8 @@ CORE = os.path.join(HERE, "core")
 MADE = os.path.join(CORE, "calls.h")
 MODULE = os.path.join(HERE, "huckleport", "_core.abi3.so")
 LIBRARY = os.path.join(ROOT, "bindings/c/out")
-# The library takes its memory by the functions of core/memory.h.
-WRAPS = [f"-Wl,--wrap={it}" for it in ("malloc", "realloc", "free")]
+# (most texts are short, so loops over them are quickest one step at a time)
+QUICK = ["-O3", "-fno-tree-vectorize"]
 sys.dont_write_bytecode = True
 sys.path[:0] = [HERE, os.path.join(ROOT, "bindings/c")]
 from exports import SOURCES, modules
@@ -327,9 +327,9 @@ def build(given):
         return print(f"left out: the extension module, since {missing}")
     if missing:
         sys.exit(f"the extension module cannot be built: {missing}")
-    words = [given.compiler, "-std=c99", "-O3", "-fPIC", "-shared", "-Wall", "-Wextra", "-Wno-missing-field-initializers", "-fvisibility=hidden"]
+    words = [given.compiler, "-std=c99", *QUICK, "-fPIC", "-shared", "-Wall", "-Wextra", "-Wno-missing-field-initializers", "-fvisibility=hidden"]
     words += [f"-I{sysconfig.get_path('include')}", f"-I{given.library}", f"-I{CORE}", os.path.join(CORE, "core.c")]
-    words += [os.path.join(given.library, "libhuckleport.a"), "-Wl,--exclude-libs,ALL", "-Wl,-z,noexecstack", *WRAPS]
+    words += [os.path.join(given.library, "libhuckleport.a"), "-Wl,--exclude-libs,ALL", "-Wl,-z,noexecstack"]
     if subprocess.run([*words, "-o", given.to + ".new"]).returncode:
         sys.exit(f"the extension module was not built: {given.compiler} says above why")
     os.replace(given.to + ".new", given.to)

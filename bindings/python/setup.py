@@ -13,8 +13,6 @@ ARCHIVE = os.path.join(STATIC, "libhuckleport.a")
 MISSING = [it for it in ("libhuckleport.a", "huckleport.h") if not os.path.exists(os.path.join(STATIC, it))]
 if MISSING:
     sys.exit(f"{STATIC} has no {' and no '.join(MISSING)}: python3 bindings/c/make.py makes them, and HUCKLEPORT_STATIC names the folder where they lie elsewhere")
-# The library takes its memory by the functions of core/memory.h.
-WRAPS = [f"-Wl,--wrap={it}" for it in ("malloc", "realloc", "free")]
 
 MODULE = Extension(
     "huckleport._core",
@@ -22,8 +20,8 @@ MODULE = Extension(
     depends=[os.path.join("core", it) for it in sorted(os.listdir(os.path.join(HERE, "core")))],
     include_dirs=[STATIC, "core"],
     extra_objects=[ARCHIVE],
-    extra_compile_args=["-std=c99", "-O2", "-fvisibility=hidden"],
-    extra_link_args=["-Wl,--exclude-libs,ALL", "-Wl,-z,noexecstack", *WRAPS],
+    extra_compile_args=["-std=c99", "-O3", "-fno-tree-vectorize", "-fvisibility=hidden"],
+    extra_link_args=["-Wl,--exclude-libs,ALL", "-Wl,-z,noexecstack"],
     py_limited_api=True,
 )
 

@@ -20,16 +20,21 @@ create function huckleport.is_operator() returns boolean language sql stable as 
     from pg_namespace n where n.nspname = 'huckleport'
 $$;
 
-create function huckleport.check_granted(document bigint) returns void language plpgsql stable as $$
+-- Refuses a role to which one of the documents is not granted, and returns true otherwise. (As an expression, a call takes less than as a query.)
+create function huckleport.check_granted(variadic documents bigint[]) returns boolean language plpgsql stable as $$
+declare
+    refused bigint;
 begin
     -- (its callers run as the owner: whoever is that role has all rights, which is fast to see)
     if pg_has_role(session_user, current_user, 'member') then
-        return;
+        return true;
     end if;
-    if not exists (select from huckleport.grants g where g.document = check_granted.document and g.role = session_user)
-        and not huckleport.is_operator() then
-        raise exception 'document % is not granted to %', document, session_user using errcode = 'insufficient_privilege';
+    select min(it.document) into refused from unnest(documents) as it (document)
+    where not exists (select from huckleport.grants g where g.document = it.document and g.role = session_user);
+    if refused is not null and not huckleport.is_operator() then
+        raise exception 'document % is not granted to %', refused, session_user using errcode = 'insufficient_privilege';
     end if;
+    return true;
 end $$;
 
 create function huckleport.grant_document(given text, role text) returns void language plpgsql
@@ -250,50 +255,55 @@ $$;
 
 -- Hands lines in, as the requests `first`, `first` + 1 and so on of that client. A request that waits or was answered stays as it is if it is
 -- the same line, and the call is refused if it is another one. A line that is too long for the document is stored up to the byte behind its
--- limit, so its reply is `line-too-long`.
+-- limit, so its reply is `line-too-long`. (Each statement within takes 10 to 20 microseconds, so there are two.)
 create function huckleport.submit(document bigint, client uuid, first bigint, lines bytea[]) returns void language plpgsql
-security definer set search_path = pg_catalog, pg_temp set jit = off set enable_seqscan = off set enable_bitmapscan = off as $$
+security definer set search_path = pg_catalog, pg_temp set jit = off set plan_cache_mode = force_generic_plan set enable_seqscan = off set enable_bitmapscan = off as $$
 declare
-    last bigint := submit.first + cardinality(submit.lines) - 1;
-    most record;
+    granted constant boolean := huckleport.check_granted(document);
+    -- (the size of the array is not below that of its lines)
+    size constant int := pg_column_size(lines);
     put int;
+    it record;
 begin
-    perform huckleport.check_granted(document);
-    select d.line + 1 as bytes, s.document_lines, s.document_bytes, s.client_lines, s.client_bytes into strict most
-    from huckleport.documents d cross join huckleport.settings s where d.id = submit.document;
     insert into huckleport.requests (document, client, request, line)
-    select submit.document, submit.client, submit.first + given.place - 1, substring(given.line for most.bytes)
-    from unnest(submit.lines) with ordinality as given (line, place)
+    select d.id, submit.client, submit.first + given.place - 1, substring(given.line for d.line + 1)
+    from huckleport.documents d cross join unnest(submit.lines) with ordinality as given (line, place)
+    where d.id = submit.document
     order by given.place
     on conflict on constraint requests_client_document_request_key do nothing;
     get diagnostics put = row_count;
     -- (Another statement, so it also sees lines that were recorded while the first one waited for a worker's row.)
-    if put < cardinality(lines) or exists (select from huckleport.lines l
+    select huckleport.is_due(s.document_lines, s.document_bytes, 64, put, size) as counts_document,
+        huckleport.is_due(s.client_lines, s.client_bytes, 16, put, size) as counts_client,
+        exists (select from huckleport.lines l
             where l.document = submit.document and l.client = submit.client and l.request >= submit.first)
         or exists (select from huckleport.answers a
             where a.document = submit.document and a.client = submit.client and a.request >= submit.first)
         or exists (select from huckleport.segment_clients c
-            where c.document = submit.document and c.client = submit.client and c.last_request >= submit.first) then
-        perform huckleport.check_same(document, client, first, last, most.bytes, lines);
+            where c.document = submit.document and c.client = submit.client and c.last_request >= submit.first) as are_known,
+        pg_notify('huckleport_requests', submit.document::text)
+    into strict it from huckleport.settings s;
+    if it.are_known or put < cardinality(lines) then
+        perform huckleport.check_same(document, client, first, first + cardinality(lines) - 1, lines);
     end if;
-    -- (their size with that of the array is not below theirs)
-    if put > 0 and huckleport.is_due(most.document_lines, most.document_bytes, 64, put, pg_column_size(lines)) then
+    if put > 0 and it.counts_document then
         perform huckleport.check_waiting(document, null);
     end if;
-    if put > 0 and huckleport.is_due(most.client_lines, most.client_bytes, 16, put, pg_column_size(lines)) then
+    if put > 0 and it.counts_client then
         perform huckleport.check_waiting(null, client);
     end if;
-    perform pg_notify('huckleport_requests', submit.document::text);
 end $$;
 
 -- Refuses other lines under requests that wait or were answered, and removes those from the waiting ones that were answered. A number that is
 -- not the client's last and was not recorded was a question's, so it may be a question again, and nothing else.
-create function huckleport.check_same(document bigint, client uuid, first bigint, last bigint, longest int, lines bytea[])
+create function huckleport.check_same(document bigint, client uuid, first bigint, last bigint, lines bytea[])
 returns void language plpgsql
 set jit = off set enable_hashjoin = off set enable_mergejoin = off set enable_seqscan = off set enable_bitmapscan = off set enable_material = off as $$
 declare
+    longest int;
     other bigint;
 begin
+    select d.line + 1 into strict longest from huckleport.documents d where d.id = check_same.document;
     with known as (
         select l.request, l.line from huckleport.lines l
         where l.document = check_same.document and l.client = check_same.client and l.request between first and last
@@ -306,7 +316,7 @@ begin
         select r.request, r.line from huckleport.requests r
         where r.document = check_same.document and r.client = check_same.client and r.request between first and last)
     select min(known.request) into other from known
-    where known.line <> substring(check_same.lines[known.request - check_same.first + 1] for check_same.longest);
+    where known.line <> substring(check_same.lines[known.request - check_same.first + 1] for longest);
     if other is null then
         delete from huckleport.requests r
         where r.document = check_same.document and r.client = check_same.client and r.request between first and last
@@ -331,33 +341,39 @@ create function huckleport.is_question(line bytea) returns boolean language sql 
     select encode(substring(is_question.line for 64), 'escape') ~ s.questions from huckleport.settings s
 $$;
 
--- The replies to a client's requests behind a number. Replies to questions up to that number were taken, and are forgotten.
-create function huckleport.replies(document bigint, client uuid, behind bigint, most int default 1000)
-returns table (request bigint, reply bytea) language plpgsql security definer set search_path = pg_catalog, pg_temp
-set jit = off set enable_seqscan = off set enable_bitmapscan = off as $$
+-- Returns the replies to a client's requests to some documents, each behind a number: at most `most` of each document. Replies to questions up to
+-- that number were taken, and are removed.
+create function huckleport.replies_of(documents bigint[], client uuid, behind bigint[], most int)
+returns table (document bigint, request bigint, reply bytea) language plpgsql security definer set search_path = pg_catalog, pg_temp
+set jit = off set plan_cache_mode = force_generic_plan set enable_hashjoin = off set enable_mergejoin = off set enable_seqscan = off set enable_bitmapscan = off as $$
+declare
+    granted constant boolean := huckleport.check_granted(variadic documents);
 begin
-    perform huckleport.check_granted(document);
-    if not exists (select from huckleport.answers a where a.document = replies.document and a.client = replies.client)
-        and not exists (select from huckleport.segment_clients c
-            where c.document = replies.document and c.client = replies.client and c.last_request > replies.behind) then
-        return query
-        select l.request, l.reply from huckleport.lines l
-        where l.document = replies.document and l.client = replies.client and l.request > replies.behind order by l.request limit most;
-        return;
-    end if;
-    delete from huckleport.answers a where a.document = replies.document and a.client = replies.client and a.request <= replies.behind;
     return query
-    (select l.request, l.reply from huckleport.lines l
-    where l.document = replies.document and l.client = replies.client and l.request > replies.behind order by l.request limit most)
-    union all
-    (select a.request, a.reply from huckleport.answers a
-    where a.document = replies.document and a.client = replies.client and a.request > replies.behind order by a.request limit most)
-    union all
-    select m.request, m.reply from (select exists (select from huckleport.segment_clients c
-        where c.document = replies.document and c.client = replies.client and c.last_request > replies.behind) as it) as are_there
-    cross join lateral huckleport.moved_replies(replies.document, replies.client, replies.behind, most) as m where are_there.it
-    order by 1 limit most;
+    with taken as (
+        delete from huckleport.answers a using unnest(replies_of.documents, replies_of.behind) as given (document, behind)
+        where a.document = given.document and a.client = replies_of.client and a.request <= given.behind
+    )
+    select given.document, it.request, it.reply
+    from unnest(replies_of.documents, replies_of.behind) as given (document, behind)
+    cross join lateral (
+        (select l.request, l.reply from huckleport.lines l
+        where l.document = given.document and l.client = replies_of.client and l.request > given.behind order by l.request limit replies_of.most)
+        union all
+        (select a.request, a.reply from huckleport.answers a
+        where a.document = given.document and a.client = replies_of.client and a.request > given.behind order by a.request limit replies_of.most)
+        union all
+        select m.request, m.reply from (select exists (select from huckleport.segment_clients c
+            where c.document = given.document and c.client = replies_of.client and c.last_request > given.behind) as it) as are_there
+        cross join lateral huckleport.moved_replies(given.document, replies_of.client, given.behind, replies_of.most) as m where are_there.it
+        order by 1 limit replies_of.most) as it;
 end $$;
+
+-- Returns the replies to a client's requests to one document behind a number, in the order of the requests.
+create function huckleport.replies(document bigint, client uuid, behind bigint, most int default 1000)
+returns table (request bigint, reply bytea) language sql security definer set search_path = pg_catalog, pg_temp set jit = off as $$
+    select it.request, it.reply from huckleport.replies_of(array[document], client, array[behind], most) as it order by it.request
+$$;
 
 -- The lines of a document behind a number, with their replies.
 create function huckleport.entries(document bigint, behind bigint, most int default 1000)
@@ -439,28 +455,64 @@ security definer set search_path = pg_catalog, pg_temp set jit = off as $$
     returning true
 $$;
 
+-- Whether a document may be claimed: no worker has it whose lease is running, and its version is the program's, or none of those that are kept
+-- for their workers.
+create function huckleport.is_free(d huckleport.documents, program text, running bigint[], kept text[]) returns boolean language sql as $$
+    select (d.owner is null or d.owner <> all (running))
+        and (d.version is null or d.version = program or d.version <> all (kept))
+        and (d.not_before is null or d.not_before <= huckleport.now() or d.not_before > huckleport.now() + interval '1 minute')
+$$;
+
+-- Locks documents with waiting lines that may be claimed, of those that are named. Returns them, and how many of them had an owner.
+create function huckleport.free_of_named(program text, most int, named bigint[], avoided bigint[], running bigint[], kept text[], out ids bigint[], out owned bigint)
+language plpgsql set plan_cache_mode = force_generic_plan set enable_hashjoin = off set enable_mergejoin = off set enable_seqscan = off set enable_bitmapscan = off set enable_material = off as $$
+begin
+    select array_agg(it.id), count(it.owner) into ids, owned from (
+        select d.id, d.owner from unnest(named) as it (id) join huckleport.documents d on d.id = it.id
+        where d.id <> all (avoided) and huckleport.is_free(d, program, running, kept)
+            and exists (select from huckleport.requests r where r.document = d.id)
+        limit most for no key update of d skip locked) as it;
+end $$;
+
+-- Locks documents with waiting lines that may be claimed, of all documents. Returns them, and how many of them had an owner.
+-- Either many documents have a worker, or few have waiting lines. So each call is planned for their numbers.
+-- A merge join would read all waiting lines, since the planner expects many free documents.
+create function huckleport.free_of_all(program text, most int, avoided bigint[], running bigint[], kept text[], out ids bigint[], out owned bigint)
+language sql set enable_mergejoin = off set enable_bitmapscan = off as $$
+    select array_agg(it.id), count(it.owner) from (
+        select d.id, d.owner from huckleport.documents d
+        where d.id <> all (avoided) and huckleport.is_free(d, program, running, kept)
+            and exists (select from huckleport.requests r where r.document = d.id)
+        limit most for no key update of d skip locked) as it
+$$;
+
 -- Claims documents with waiting lines that no worker has whose lease is running: of those that are named, or of all. A document of another
 -- version is claimed if `adopts`, and if no worker of its version runs.
 -- (The workers are read once, ahead: a row that changed meanwhile is tested again by its new owner.)
 create function huckleport.claim(worker bigint, program text, most int, named bigint[], avoided bigint[], adopts boolean default false)
-returns table (id bigint, epoch bigint, numbers bigint, line int, attempts int) language sql
+returns table (id bigint, epoch bigint, numbers bigint, line int, attempts int) language plpgsql
 security definer set search_path = pg_catalog, pg_temp set jit = off as $$
-    with free as (
-        select d.id, d.owner from huckleport.documents d
-        where d.id in (select r.document from huckleport.requests r where claim.named is null or r.document = any (claim.named))
-            and d.id <> all (claim.avoided)
-            and (d.version is null or d.version = claim.program or claim.adopts and d.version <> all (array(
-                select w.version from huckleport.workers w where huckleport.is_running(w.until, w.lease))))
-            and (d.not_before is null or d.not_before <= huckleport.now() or d.not_before > huckleport.now() + interval '1 minute')
-            and (d.owner is null or d.owner <> all (array(select w.id from huckleport.workers w where huckleport.is_running(w.until, w.lease))))
-        limit claim.most for no key update skip locked),
-    counted as (select count(nextval('huckleport.take_overs')) from free where free.owner is not null)
+declare
+    running bigint[];
+    kept text[];
+    free bigint[];
+    owned bigint;
+begin
+    select coalesce(array_agg(w.id), '{}'), case when adopts then coalesce(array_agg(w.version), '{}') end into running, kept
+    from huckleport.workers w where huckleport.is_running(w.until, w.lease);
+    if named is null then
+        select * into free, owned from huckleport.free_of_all(program, most, avoided, running, kept);
+    else
+        select * into free, owned from huckleport.free_of_named(program, most, named, avoided, running, kept);
+    end if;
+    perform nextval('huckleport.take_overs') from generate_series(1, owned);
+    return query
     update huckleport.documents d
     set owner = claim.worker, epoch = d.epoch + 1, attempts = d.attempts + 1,
         not_before = case when d.attempts < 2 then null else huckleport.now() + interval '0.1 s' * 2 ^ least(d.attempts, 9) end
-    from free, counted where d.id = free.id
-    returning d.id, d.epoch, d.numbers, d.line, d.attempts
-$$;
+    where d.id = any (free)
+    returning d.id, d.epoch, d.numbers, d.line, d.attempts;
+end $$;
 
 -- A piece of the log of one document: how many lines, the last one's number, the lines and the replies by newlines.
 create function huckleport.piece(document bigint, behind bigint, most int, bytes bigint)
@@ -526,7 +578,7 @@ $$;
 -- bytes, and at least one line.
 create function huckleport.take(documents bigint[], most int, bytes bigint, clients uuid[], answered bigint[])
 returns table (document bigint, ids bigint[], lines bytea) language plpgsql security definer set search_path = pg_catalog, pg_temp
-set jit = off set enable_hashjoin = off set enable_mergejoin = off set enable_seqscan = off set enable_bitmapscan = off set enable_material = off as $$
+set jit = off set plan_cache_mode = force_generic_plan set enable_hashjoin = off set enable_mergejoin = off set enable_seqscan = off set enable_bitmapscan = off set enable_material = off as $$
 begin
     perform pg_notify('huckleport_client_' || it.client, it.document::text) from unnest(clients, answered) as it (client, document);
     perform pg_notify('huckleport_document_' || it.document, '') from (select distinct unnest(answered)) as it (document);
@@ -557,21 +609,24 @@ end $$;
 create function huckleport.record(
     worker bigint, documents bigint[], epochs bigint[], fresh bigint[], places bigint[], ids bigint[], numbers bigint[], replies bytea[])
 returns table (held bigint[], clients uuid[], answered bigint[]) language plpgsql security definer set search_path = pg_catalog, pg_temp
-set jit = off set enable_hashjoin = off set enable_mergejoin = off set enable_seqscan = off set enable_bitmapscan = off set enable_material = off as $$
+set jit = off set plan_cache_mode = force_generic_plan set enable_hashjoin = off set enable_mergejoin = off set enable_seqscan = off set enable_bitmapscan = off set enable_material = off as $$
 declare
+    are_all boolean;
     due bigint;
     moved bigint;
 begin
+    -- (A worker has thousands of documents. The comparison of owners is one that no index serves, so these documents are found by their ids.)
     select array_agg(it.id) into held from (
         select d.id
-        from huckleport.documents d join unnest(record.documents, record.epochs) as given (document, epoch) on d.id = given.document
-        where d.owner = record.worker and d.epoch = given.epoch
+        from unnest(record.documents, record.epochs) as given (document, epoch) join huckleport.documents d on d.id = given.document
+        where d.owner is not distinct from record.worker and d.epoch = given.epoch
         order by d.id for no key update of d) as it;
-    select count(*) into due from unnest(record.places) as it (document) where it.document = any (held);
+    are_all := cardinality(held) = cardinality(documents);
+    select count(*) into due from unnest(record.places) as it (document) where are_all or it.document = any (held);
     with gone as (
         delete from huckleport.requests r
         using unnest(record.places, record.ids, record.numbers, record.replies) as given (document, id, number, reply)
-        where given.document = any (held) and r.document = given.document and r.id = given.id
+        where (are_all or given.document = any (held)) and r.document = given.document and r.id = given.id
         returning r.document, given.number, r.client, r.request, r.line, given.reply
     ), put as (
         insert into huckleport.lines (document, number, client, request, line, reply) select * from gone where gone.number > 0

@@ -4,6 +4,7 @@ from __future__ import annotations
 
 import time
 import uuid
+from collections import OrderedDict
 from functools import partial
 from itertools import groupby
 from types import TracebackType
@@ -11,9 +12,9 @@ from typing import Any, Dict, Iterable, Iterator, List, NamedTuple, Optional, Se
 
 from psycopg import sql
 
-from .links import Link, Setting, escaped
+from .links import Link, Setting, array, escaped
 from .places import jumps
-from .refusals import ClientFull, DocumentFull, NotAnswered, OtherLimits, Refused
+from .refusals import ClientFull, DocumentFull, NotAnswered, NotGranted, OtherLimits, Refused
 
 CHUNK_LINES, CHUNK_BYTES = 500, 1 << 20
 """How much is handed in by one statement."""
@@ -24,11 +25,14 @@ WINDOW_LINES, WINDOW_BYTES = 4000, 8 << 20
 # How long a client waits for a notification before it looks by itself, and before it hands in again the lines that were not answered.
 LOOK, AGAIN = 0.25, 10.0
 
+# How many replies are read at once, and those of how many documents.
+READ_REPLIES, READ_DOCUMENTS = 1000, 50
+
 # How many lines, and bytes of lines and replies, are read at once by whoever follows a document.
 PAGE_LINES, PAGE_BYTES = 10_000, 4 << 20
 
 SUBMIT = "select huckleport.submit(%b, %b, %b, %b::bytea[])"
-REPLIES = "select request, reply from huckleport.replies(%s, %s, %s)"
+REPLIES = "select document, request, reply from huckleport.replies_of(%s::bigint[], %s, %s::bigint[], %s)"
 PAGE = "select last, clients, requests, lines, replies from huckleport.page(%s, %s, %s, %s)"
 
 
@@ -59,6 +63,8 @@ class Client:
         # By the place of their database, and their id there.
         self._by_place: Dict[Tuple[int, str], Document] = {}
         self._links = self._linked() if links is None else links
+        # By their database: the documents that were notified of replies, and not read since.
+        self._notified: List[OrderedDict[Document, None]] = [OrderedDict() for _ in self._links]
 
     def _linked(self) -> List[Link]:
         """Returns connections of its own."""
@@ -90,7 +96,7 @@ class Client:
         assert document is not None
         row = self._links[at].run("select numbers, line from huckleport.about(%s)", (document,), until).fetchone()
         assert row is not None
-        made = Document(self, self._links[at], self._conninfo[at], name, document, *row)
+        made = Document(self, at, name, document, *row)
         self._by_place[at, str(document)] = made
         return made
 
@@ -100,7 +106,7 @@ class Client:
 
     def _told(self, at: int, payload: str) -> None:
         if (at, payload) in self._by_place:
-            self._by_place[at, payload]._is_told = True
+            self._notified[at][self._by_place[at, payload]] = None
 
     def close(self) -> None:
         for it in self._links:
@@ -116,10 +122,9 @@ class Client:
 class Document:
     """A document, as one client uses it."""
 
-    def __init__(self, client: Client, link: Link, conninfo: str, name: str, number: int, numbers: int, line: int) -> None:
+    def __init__(self, client: Client, at: int, name: str, number: int, numbers: int, line: int) -> None:
         self.client, self.name, self.id, self.numbers, self.line = client, name, number, numbers, line
-        self._link, self._conninfo = link, conninfo
-        self._is_told = False
+        self._link, self._conninfo, self._notified = client._links[at], client._conninfo[at], client._notified[at]
         # By their requests: the lines that were handed in and not answered, and the replies that nobody has taken.
         self._waiting: Dict[int, bytes] = {}
         self._answers: Dict[int, bytes] = {}
@@ -240,19 +245,42 @@ class Document:
                 raise NotAnswered(f"{escaped(self.name)}: {len(self._waiting)} requests of client {self.client.id} were not answered in time: they may be later")
 
     def _read(self, until: float) -> int:
-        """Reads the replies that are there, and returns how many came."""
+        """Reads the replies that are there, and returns how many came. Those of other documents that were notified are read by the way."""
         if not self._waiting:
             return 0
-        self._is_told = False
-        rows = self._link.run(REPLIES, (self.id, self.client.id, next(iter(self._waiting)) - 1), until).fetchall()
-        if self._handed_in[0] != self._link.times:
-            # (While the connection was lost, another process may have used these numbers. To hand the lines in again finds it out.)
-            return 0
-        count = len(self._waiting)
-        for request, reply in rows:
-            if self._waiting.pop(request, None) is not None:
-                self._answers[request] = reply
+        count, documents = len(self._waiting), self._to_read()
+        try:
+            self._read_all(documents, until)
+        except NotGranted:
+            if len(documents) == 1:
+                raise
+            self._read_all([self], until)
         return count - len(self._waiting)
+
+    def _to_read(self) -> List[Document]:
+        """Returns this document, and others that were notified and wait for replies. They are no longer noted as notified."""
+        found = [self]
+        self._notified.pop(self, None)
+        while self._notified and len(found) < READ_DOCUMENTS:
+            document = self._notified.popitem(last=False)[0]
+            if document._waiting:
+                found.append(document)
+        return found
+
+    def _read_all(self, documents: List[Document], until: float) -> None:
+        behind = array(next(iter(it._waiting)) - 1 for it in documents)
+        given = array(it.id for it in documents), self.client.id, behind, READ_REPLIES // len(documents)
+        rows = self._link.run(REPLIES, given, until, binary=True).fetchall()
+        by_id = {it.id: it for it in documents}
+        for document, request, reply in rows:
+            by_id[document]._take(request, reply)
+
+    def _take(self, request: int, reply: bytes) -> None:
+        """Keeps a reply that was read. (If the connection was lost meanwhile, another process may have used these numbers. To hand the lines in again
+        finds it out.)
+        """
+        if self._handed_in[0] == self._link.times and self._waiting.pop(request, None) is not None:
+            self._answers[request] = reply
 
     def _wait(self, until: float) -> None:
         """Waits for a notification. Lines that were handed in on a connection that was lost are handed in again."""
@@ -260,7 +288,7 @@ class Document:
         if times != self._link.times or time.monotonic() - then > AGAIN:
             self._hand_in_again(until)
         end = min(time.monotonic() + LOOK, until)
-        while not self._is_told and time.monotonic() < end and self._link.wait(end - time.monotonic()):
+        while self not in self._notified and time.monotonic() < end and self._link.wait(end - time.monotonic()):
             pass
 
     def _hand_in_again(self, until: float) -> None:

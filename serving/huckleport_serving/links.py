@@ -6,7 +6,7 @@ import logging
 import select
 import time
 from importlib import resources
-from typing import Any, Callable, Optional, Sequence, Union
+from typing import Any, Callable, Iterable, Optional, Sequence, Union
 
 import psycopg
 from psycopg import sql
@@ -44,14 +44,14 @@ Setting = Union[sql.SQL, sql.Composed]
 SETTLING = 5.0
 """For how long a client's first connection waits for another process of the same id to be gone, in seconds."""
 
-TABLES = 3
+TABLES = 4
 """The version of the tables."""
 
 SCRIPTS = ("schema.sql", "added.sql", "segments.sql", "calls.sql", "roles.sql")
 """What makes the tables in a database that has none."""
 
-UPGRADES = {1: ("dropped.sql", "upgrade_1.sql", *SCRIPTS[1:]), 2: ("dropped.sql", *SCRIPTS[2:])}
-"""What upgrades the tables of each older version."""
+UPGRADES = {1: ("dropped.sql", "upgrade_1.sql", *SCRIPTS[1:]), 2: ("dropped.sql", *SCRIPTS[2:]), 3: ("dropped.sql", *SCRIPTS[3:])}
+"""What upgrades the tables of each older version. Version 4 has other functions than version 3, and the same tables."""
 
 # Where a primary was lost, the hosts that are named are asked in turn for the one that takes writes.
 DEFAULTS = {"target_session_attrs": "read-write", "connect_timeout": "5", "application_name": "huckleport", "keepalives_idle": "10", "tcp_user_timeout": "15000"}
@@ -70,6 +70,11 @@ PASSING = ("08", "57", "53", "40", "25006")
 
 class WrongTables(Exception):
     """The database has no tables for documents, or those of another version."""
+
+
+def array(numbers: Iterable[int]) -> str:
+    """Returns numbers as PostgreSQL reads them."""
+    return "{" + ",".join(map(str, numbers)) + "}"
 
 
 def first_line(fault: Exception) -> str:

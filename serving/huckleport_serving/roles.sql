@@ -25,7 +25,7 @@ begin
     grant usage on schema huckleport to huckleport_client, huckleport_worker, huckleport_operator;
     grant select on huckleport.settings to huckleport_client, huckleport_worker;
     grant execute on function huckleport.enter, huckleport.find, huckleport.make, huckleport.about, huckleport.last_request, huckleport.submit,
-        huckleport.replies, huckleport.entries, huckleport.page to huckleport_client, huckleport_operator;
+        huckleport.replies, huckleport.replies_of, huckleport.entries, huckleport.page to huckleport_client, huckleport_operator;
     grant execute on function huckleport.register, huckleport.renew, huckleport.claim, huckleport.log, huckleport.piece, huckleport.take, huckleport.record,
         huckleport.sweep, huckleport.forget_answers, huckleport.release, huckleport.leave to huckleport_worker;
     grant select on all tables in schema huckleport to huckleport_operator;

@@ -1,4 +1,4 @@
--- The tables of served documents, version 3. Clients, workers and operators call the functions of calls.sql, and roles.sql says who may.
+-- The tables of served documents, version 4. Clients, workers and operators call the functions of calls.sql, and roles.sql says who may.
 create schema huckleport;
 
 -- One row: the version of these tables, the count of databases over which documents are spread, and the limits of all documents.
@@ -16,7 +16,7 @@ create table huckleport.settings (
     connections int not null default 1000 check (connections > 0),
     questions text not null default '^$'
 );
-insert into huckleport.settings (tables) values (3);
+insert into huckleport.settings (tables) values (4);
 
 -- A worker has one lease of the length `lease` for all of its documents. `until` is by this database's clock, as every time here is.
 create table huckleport.workers (

@@ -14,14 +14,14 @@ import socket
 import time
 from dataclasses import dataclass, field
 from itertools import accumulate, islice
-from typing import Any, Dict, Iterable, List, Optional, Sequence, Set, Tuple
+from typing import Any, Dict, List, Optional, Sequence, Set, Tuple
 
 import psycopg
 from psycopg import sql
 
 from .alone import Alone, Killed
 from .leases import Lease
-from .links import connected, first_line, log, ready
+from .links import array, connected, first_line, log, ready
 from .questions import is_question
 from .worlds import OUT_OF_MEMORY, OUT_OF_TIME, PROGRAM, Unanswered, Watch, World, replay, resident, split
 
@@ -40,8 +40,8 @@ ELSEWHERE = 0.5
 FEWEST = 16
 """How many lines of a document are taken at once, where many documents have some."""
 
-SWEEP = 0.5
-"""How often a worker itself checks for waiting lines and for idle documents, in seconds."""
+SWEEP, RESTS = 0.5, 10
+"""How often a worker itself checks for waiting lines and for idle documents, in seconds, and how many times as long as that took it rests at least."""
 
 AVOIDED = 10.0
 """For how long a worker leaves a document to others that it had no memory for, in seconds."""
@@ -155,11 +155,6 @@ class LeaseEnded(Exception):
     """The lease ended before it was renewed: the documents may be another's."""
 
 
-def array(numbers: Iterable[int]) -> str:
-    """Numbers as PostgreSQL reads them."""
-    return "{" + ",".join(map(str, numbers)) + "}"
-
-
 def give_memory_back() -> None:
     """Hands memory that is free to the system, where the C library can."""
     gc.collect()
@@ -186,7 +181,7 @@ class Tenure:
         self.told: Tuple[List[Any], List[int]] = ([], [])
         # The piece of a log that was read ahead: whose, behind which number, and its row.
         self.ahead: Optional[Tuple[Held, int, Optional[Tuple[Any, ...]]]] = None
-        self.swept = self.forgot = self.dropped = 0.0
+        self.sweep_due = self.forgot = self.dropped = 0.0
         self.memory, self.seconds = 0, 0.0
         self.connection = connected(conninfo, [sql.SQL("listen huckleport_requests")])
         self.connection.add_notify_handler(lambda it: self._notified(it.payload))
@@ -212,7 +207,7 @@ class Tenure:
         """Lines came for a document, or documents were handed on."""
         if not payload.isdecimal():
             self.elsewhere.clear()
-            self.swept = 0.0
+            self.sweep_due = 0.0
         elif int(payload) in self.held:
             self.due[int(payload)] = None
         elif self.elsewhere.get(int(payload), 0.0) < time.monotonic():
@@ -223,8 +218,8 @@ class Tenure:
         if self.lease.has_ended:
             raise LeaseEnded
         is_busy = self._collect() | self._serve() | self._replay() | self._replay_alone() | self._claim(sorted(self.candidates))
-        if time.monotonic() - self.swept > SWEEP:
-            self._sweep()
+        if time.monotonic() > self.sweep_due:
+            self._sweep_and_rest()
         elif not is_busy and not self._can_serve() and not self.told[0]:
             busy = [it.alone.fileno() for it in self.apart.values() if it.alone is not None and it.is_busy]
             ready(SWEEP, self.connection.fileno(), self.woken, *busy)
@@ -551,14 +546,22 @@ class Tenure:
             self._let_go(found)
             give_memory_back()
 
-    def _sweep(self) -> None:
-        """Looks at what notifications tell of, since some may have been lost; and at the bounds."""
-        self.swept = time.monotonic()
+    def _sweep_and_rest(self) -> None:
+        """Sweeps. The next sweep is due after a while, or at once if documents were handed on meanwhile."""
+        start = time.monotonic()
+        self.sweep_due = start + SWEEP
+        self._sweep(start)
+        if self.sweep_due:
+            end = time.monotonic()
+            self.sweep_due = max(self.sweep_due, end + RESTS * (end - start))
+
+    def _sweep(self, now: float) -> None:
+        """Checks for the lines of lost notifications, and the bounds."""
         self.elsewhere.clear()
         self.memory, self.seconds = self._row("select memory, seconds from huckleport.settings")
-        drops = self.swept - self.dropped > DROP
+        drops = now - self.dropped > DROP
         if drops:
-            self.dropped = self.swept
+            self.dropped = now
         for (document,) in self.connection.execute("select huckleport.sweep(%s, %s)", (self.id, drops)).fetchall():
             if document in self.held:
                 self.due[document] = None
@@ -566,8 +569,8 @@ class Tenure:
         self._evict(self.bounds.idle, self.bounds.documents)
         if self._taken() > self.bounds.memory:
             self._shrink()
-        if self.swept - self.forgot > FORGET:
-            self.forgot = self.swept
+        if now - self.forgot > FORGET:
+            self.forgot = now
             self._row("select huckleport.forget_answers()")
 
     def _taken(self) -> int:

@@ -120,8 +120,9 @@ def replay(world: World, lines: Sequence[bytes], replies: Sequence[bytes], watch
 def resident(process: str = "self") -> int:
     """Returns the bytes of memory that a process has."""
     try:
-        with open(f"/proc/{process}/statm", encoding="ascii") as file:
-            return int(file.read().split()[1]) * PAGE
+        # (without a buffer it takes a third of the time, and it is read for each turn of a document)
+        with open(f"/proc/{process}/statm", "rb", buffering=0) as file:
+            return int(file.read(100).split()[1]) * PAGE
     except (FileNotFoundError, ProcessLookupError):
         return 0
 

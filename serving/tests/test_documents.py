@@ -16,7 +16,8 @@ from lines import changes, lines
 from place import ROOT, Place, replies_of
 
 from huckleport_serving import Client, NotAnswered, OtherLimits, OtherLine, connect
-from huckleport_serving.links import connected, ready
+from huckleport_serving.client import REPLIES as READ_REPLIES
+from huckleport_serving.links import Link, connected, ready
 
 sys.path.insert(0, os.path.join(ROOT, "tools"))
 from running import Dialogue, dialogues
@@ -131,6 +132,16 @@ class Replies(Served):
             self.assertEqual([document.reply(it) for it in requests], [b'{"ok":%d}' % it for it in (0, 1, 0, 2, 3, 0)])
         self.assertEqual([it.request for it in document.follow(timeout=0.1)], [2, 4, 5])
 
+    def test_replies_of_many_documents_are_read_at_once(self) -> None:
+        """A client posts to many documents, and reads the replies to all that it was notified of by few statements."""
+        given = {self.client.document(f"one of many {it}"): lines(f"one of many {it}", 12) for it in range(100)}
+        posted = {it: it.post(its) for it, its in given.items()}
+        self.wait_until("select count(*) = 0 from huckleport.requests")
+        with patch.object(Link, "run", autospec=True, side_effect=Link.run) as run:
+            for it, requests in posted.items():
+                self.assertEqual([it.reply(request) for request in requests], replies_of(given[it]))
+        self.assertLess([it.args[1] for it in run.call_args_list].count(READ_REPLIES), 20)
+
     def test_a_retry_that_comes_late_is_dropped(self) -> None:
         document = self.client.document("late")
         document.send(MADE)
@@ -215,6 +226,30 @@ class Fences(Served):
         self.assertEqual(self.row("select count(*) from huckleport.lines where document = %s", document), (0,))
         self.assertEqual(self.recorded(second, document, epoch + 1), [document])
         self.assertEqual(self.row("select count(*) from huckleport.lines where document = %s", document), (2,))
+
+    def test_of_two_documents_the_one_that_is_still_held_is_written(self) -> None:
+        kept, lost = self.handed_in("kept"), self.handed_in("lost")
+        worker, other = self.worker(), self.worker()
+        (_, first), (_, second) = self.claimed(worker, "kept"), self.claimed(worker, "lost")
+        self.connection.execute("update huckleport.documents set owner = %s, epoch = epoch + 1 where id = %s", (other, lost))
+        rows = self.connection.execute("select document, id from huckleport.requests where document = any (%s) order by id", ([kept, lost],)).fetchall()
+        words = "select held, answered from huckleport.record(%s, %s, %s, '{}', %s, %s, '{1,2,1,2}', '{a,b,c,d}')"
+        given = [kept, lost], [first, second], [it for it, _ in rows], [it for _, it in rows]
+        self.assertEqual(self.row(words, worker, *given), ([kept], [kept]))
+        words = "select array_agg(l.reply order by l.number), (select count(*) from huckleport.requests r where r.document = %s) from huckleport.lines l where l.document = any (%s)"
+        self.assertEqual(self.row(words, lost, [kept, lost]), ([b"a", b"b"], 2))
+
+    def test_a_worker_reads_none_of_its_other_documents_as_it_records(self) -> None:
+        """It has thousands of documents, and records lines of one."""
+        document, worker = self.handed_in("one of thousands"), self.worker()
+        self.connection.execute("insert into huckleport.documents (name, owner) select 'another ' || it, %s from generate_series(1, 3000) as it", (worker,))
+        self.addCleanup(self.connection.execute, "delete from huckleport.documents where owner = %s", (worker,))
+        _, epoch = self.claimed(worker, "one of thousands")
+        with self.connection.transaction():
+            words = "select seq_tup_read + idx_tup_fetch from pg_stat_xact_user_tables where schemaname = 'huckleport' and relname = 'documents'"
+            (before,) = self.row(words)
+            self.assertEqual(self.recorded(worker, document, epoch), [document])
+            self.assertLess(self.row(words)[0] - before, 10)
 
     def test_a_lease_that_ended_is_not_renewed(self) -> None:
         worker = self.worker()

@@ -6,13 +6,14 @@ import json
 import logging
 import os
 import subprocess
+import sys
 import threading
 import time
 import unittest
 from typing import List
 
 from lines import lines
-from place import PROGRAM, told
+from place import PROGRAM, Place, told
 from test_documents import Served
 
 from huckleport_serving import connect
@@ -182,6 +183,34 @@ class Apart(Served):
         given = [it for it in lines("heavy", 30) if b"createRange" in it or b"Attribute" in it]
         self.assertEqual(len(document.send(given, timeout=300)), len(given))
         self.assertEqual(document.ask(b'["length",0]', timeout=120), b'{"ok":1}')
+
+
+REFUSED_MEMORY = """
+import resource
+from huckleport_serving.worlds import Unanswered, World
+
+world, limits, replies = World(2**32 - 1, 2**20), resource.getrlimit(resource.RLIMIT_AS), []
+line = b'["createText",0,"' + b"x" * 900000 + b'"]'
+with open("/proc/self/statm") as it:
+    room = int(it.read().split()[0]) * resource.getpagesize()
+resource.setrlimit(resource.RLIMIT_AS, (room + (24 << 20), limits[1]))
+refused = 0
+while refused < 3:
+    try:
+        replies.append(world.answer(line))
+    except Unanswered:
+        refused += 1
+resource.setrlimit(resource.RLIMIT_AS, limits)
+replies.append(world.answer(line))
+print(len(replies) > 2, replies == [b'{"ok":%d}' % number for number in range(1, len(replies) + 1)])
+"""
+
+
+class Worlds(unittest.TestCase):
+    def test_a_line_that_is_refused_memory_has_no_reply(self) -> None:
+        """A worker does not take the reply of the line before for that of a refused line, which changed nothing."""
+        ran = subprocess.run([sys.executable, "-c", REFUSED_MEMORY], env=Place.environment(), stdout=subprocess.PIPE, check=True)
+        self.assertEqual(ran.stdout, b"True True\n")
 
 
 class Messages(unittest.TestCase):

@@ -436,6 +436,23 @@ class Upgrade(unittest.TestCase):
                 self.assertEqual(self.shape(connection), self.shape(new))
                 self.assertEqual(connection.execute("select name from huckleport.documents").fetchall(), [("older",)])
 
+    def test_tables_of_version_3(self) -> None:
+        """They had other functions, and the same tables. Logs stay as they are, also their segments."""
+        with Place() as place:
+            with psycopg.connect(place.conninfo, autocommit=True) as connection:
+                connection.execute("create database older")
+                older = place.conninfo.replace("dbname=postgres", "dbname=older")
+                create_tables(older)
+            given, who = lines("older", 300), uuid.uuid4()
+            with psycopg.connect(older, autocommit=True) as connection:
+                self.fill(connection, given, who)
+                self.assertEqual(connection.execute("select huckleport.compress('older', 1, 100)").fetchone(), (100,))
+                connection.execute("drop function huckleport.replies_of")
+                connection.execute("create function huckleport.of_version_3() returns void language sql as ''")
+                connection.execute("update huckleport.settings set tables = 3")
+            self.assertFalse(create_tables(older))
+            self.check(place, older, given, who)
+
     def fill(self, connection: psycopg.Connection[Any], given: List[bytes], who: uuid.UUID) -> None:
         """A document as clients and workers of that version left it, and a line that waits."""
         connection.execute("select huckleport.make('older')")

@@ -36,6 +36,8 @@ MAY: Dict[str, Set[str]] = {
     "select huckleport.last_request({other}, " + CLIENT + ")": {"operator"},
     "select huckleport.replies({mine}, " + CLIENT + ", 0)": {"client", "operator"},
     "select huckleport.replies({other}, " + CLIENT + ", 0)": {"operator"},
+    "select huckleport.replies_of(array[{mine}], " + CLIENT + ", array[0], 9)": {"client", "operator"},
+    "select huckleport.replies_of(array[{mine}, {other}], " + CLIENT + ", array[0, 0], 9)": {"operator"},
     "select huckleport.entries({mine}, 0)": {"client", "operator"},
     "select huckleport.entries({other}, 0)": {"operator"},
     "select huckleport.page({mine}, 0, 9, 9)": {"client", "operator"},
@@ -55,7 +57,7 @@ MAY: Dict[str, Set[str]] = {
     "select huckleport.revoke_document('mine', 'client')": {"operator"},
     "select huckleport.drop_line('mine', 0)": {"operator"},
     "select huckleport.compress('mine')": {"operator"},
-    "select huckleport.check_same(0, " + CLIENT + ", 1, 1, 1, '{{}}')": set(),
+    "select huckleport.check_same(0, " + CLIENT + ", 1, 1, '{{}}')": set(),
     "select huckleport.drop_answered(0)": set(),
     "select * from huckleport.settings": {"client", "worker", "operator"},
     **{f"select * from huckleport.{it}": {"operator"} for it in ("lines", "log_lines", "segments", "segment_clients", "requests", "answers", "documents", "grants", "workers", "faults")},
@@ -166,6 +168,23 @@ class Roles(Served):
             client.document("mine")
         self.assertEqual(self.place.command_of(words, "grant", "mine", "client").wait(), 0)
         self.assertEqual(self.place.command("grant", "nowhere", "client", stderr=subprocess.DEVNULL).wait(), 1)
+
+    @unittest.skipUnless(os.geteuid() == 0, "the database's roles are mapped to root here")
+    def test_a_document_that_is_no_longer_granted_keeps_no_other_from_its_replies(self) -> None:
+        """A client has posted to two documents, and has been notified of the replies of both, as one is revoked."""
+        self.assertEqual(self.place.command("grant", "other", "client").wait(), 0)
+        with connect(self.as_role("client")) as client:
+            documents = client.document("mine"), client.document("other")
+            posted = [it.post([b'["root",0]']) for it in documents]
+            self.place.work(1)
+            self.wait_until("select count(*) = 0 from huckleport.requests")
+            self.assertEqual(self.place.command("grant", "other", "client", "--revoke").wait(), 0)
+            self.addCleanup(self.place.stop_workers)
+            while documents[1] not in documents[0]._notified:
+                documents[0]._link.wait(1)
+            self.assertEqual(documents[0].reply(posted[0][0]), b'{"ok":0}')
+            with self.assertRaises(NotGranted):
+                documents[1].reply(posted[1][0])
 
     def test_an_id_is_a_uuid(self) -> None:
         with self.assertRaises(ValueError):

@@ -13,6 +13,7 @@ export const OK = native.HP_OK;
 
 /** The standard's numbers of the kinds of nodes. */
 export const ELEMENT = 1;
+export const ATTRIBUTE = 2;
 export const TEXT = 3;
 export const INSTRUCTION = 7;
 export const COMMENT = 8;

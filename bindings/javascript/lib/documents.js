@@ -164,7 +164,7 @@ export const DocumentFragment = known({
 });
 
 const encoding = () => "UTF-8";
-const SHOW = ["Node", "unsigned long = 4294967295", "NodeFilter? = null"];
+const SHOW = ["Node or other", "unsigned long = 4294967295", "NodeFilter? = null"];
 
 export const Document = known({
   name: "Document",

@@ -1,6 +1,6 @@
 /**
- * Libraries of others that the package uses where they are there: parse5 for HTML, saxes and w3c-xmlserializer for XML. In node they are looked for
- * beside this package and where the program runs; elsewhere a program hands them in, by `provide`.
+ * Libraries of others that the package uses, which docs/javascript.md lists. In node they are looked for beside this package and where the program runs;
+ * elsewhere a program hands them in, by `provide`.
  */
 import { builtin, here, isInNode } from "./host.js";
 

@@ -2,7 +2,7 @@
 import { check, native, out } from "./core.js";
 import { FollowingIs } from "./following.js";
 import { HTML } from "./names.js";
-import { known } from "./webidl.js";
+import { guardTraps, known } from "./webidl.js";
 import { firstChildOf, isKnownEmpty, isOfParents, itsOf, knownChildAt, nextOf, numberOf, realmOf, sessionOf, wrap, wrapChild, wrapNext } from "./wrappers.js";
 
 /** Where the last question to a list by an index ended, of all lists: the next one goes on from there, where nothing has moved meanwhile. */
@@ -171,12 +171,13 @@ function indexOf(key) {
   return index !== PAST && String(index) === key ? index : -1;
 }
 
-/** What a list does where its properties are indices. */
+/** What a list of a realm does where its properties are indices. */
 class Indexed {
   #its;
 
-  constructor(its) {
+  constructor(its, realm) {
     this.#its = its;
+    this.realm = realm;
   }
 
   get(target, key, receiver) {
@@ -239,8 +240,8 @@ function namedIn(its, name) {
 class Named extends Indexed {
   #its;
 
-  constructor(its) {
-    super(its);
+  constructor(its, realm) {
+    super(its, realm);
     this.#its = its;
   }
 
@@ -284,11 +285,14 @@ class Named extends Indexed {
   }
 }
 
+guardTraps(Indexed);
+guardTraps(Named);
+
 const nodeLists = new WeakMap();
 const collections = new WeakMap();
 
 function listed(realm, name, known, its, Handler = Indexed) {
-  const made = new Proxy(Object.create(realm.interfaces[name].prototype), new Handler(its));
+  const made = new Proxy(Object.create(realm.interfaces[name].prototype), new Handler(its, realm));
   known.set(made, its);
   return made;
 }

@@ -4,7 +4,7 @@
  * A walker goes over the tree by the standard's steps, from wrapper to wrapper. The core moves iterators before removals. Without a filter of the program's,
  * the core's own iterator moves. With a filter, which the core can't call, the iterator is moved in the core to the node that the filter accepted.
  */
-import { beforeChange, check, native, NONE, out, Refusal } from "./core.js";
+import { ATTRIBUTE, beforeChange, check, native, NONE, out, Refusal } from "./core.js";
 import { known, refuseType } from "./webidl.js";
 import { itsOf, makeThing, numberIn, numberOf, realmOf, sessionOf, thingOf, wrap } from "./wrappers.js";
 
@@ -23,7 +23,8 @@ function createdBy(call, root, show) {
   return out[0];
 }
 
-const objectOf = (node) => node && node.object;
+/** The object that a program sees of a node, which may stand for an attribute. */
+const objectOf = (node) => node && (node.kept?.standsFor ?? node.object);
 
 /** The base of iterators and walkers: root, kinds of nodes to show, filter, and whether the filter is being called. Nodes are here by their states. */
 class Traversal {
@@ -50,7 +51,7 @@ class Traversal {
   filtered(node) {
     this.isAsking = true;
     try {
-      return this.asked(node.object);
+      return this.asked(objectOf(node));
     } catch (fault) {
       throw isRevoked(this.filter) ? new Refusal(native.HP_TYPE_ERROR, "the filter is a revoked proxy") : fault;
     } finally {
@@ -116,7 +117,8 @@ function makeSteps() {
 class IteratorIs extends Traversal {
   constructor(root, show, filter) {
     super(root, show, filter);
-    this.number = createdBy("hp_create_iterator", root, filter === null ? show : ALL);
+    // (the core has another kind of node in an attribute's place)
+    this.number = createdBy("hp_create_iterator", root, filter === null && this.root.kind !== ATTRIBUTE ? show : ALL);
   }
 
   /** Has the cursor be where the core has the iterator. */
@@ -246,8 +248,8 @@ export const NodeIterator = known({
   name: "NodeIterator",
   is: (it) => iteratorOf(it) !== undefined,
   attributes: {
-    root: (it) => iteratorOf(it).root.object,
-    referenceNode: (it) => iteratorOf(it).reference.object,
+    root: (it) => objectOf(iteratorOf(it).root),
+    referenceNode: (it) => objectOf(iteratorOf(it).reference),
     pointerBeforeReferenceNode: (it) => iteratorOf(it).isBefore,
     whatToShow: (it) => iteratorOf(it).show,
     filter: (it) => iteratorOf(it).filter,
@@ -415,10 +417,10 @@ export const TreeWalker = known({
   name: "TreeWalker",
   is: (it) => walkerOf(it) !== undefined,
   attributes: {
-    root: (it) => walkerOf(it).root.object,
+    root: (it) => objectOf(walkerOf(it).root),
     whatToShow: (it) => walkerOf(it).show,
     filter: (it) => walkerOf(it).filter,
-    currentNode: { type: "Node", get: (it) => walkerOf(it).current.object, set: setCurrent },
+    currentNode: { type: "Node or other", get: (it) => objectOf(walkerOf(it).current), set: setCurrent },
   },
   operations: Object.fromEntries(Object.entries(STEPS).map(([move, steps]) => [move, walked(steps)])),
 });

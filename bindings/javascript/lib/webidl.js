@@ -26,6 +26,21 @@ export function describe(value) {
   return typeof value === "object" && value !== null ? "an object" : String(value);
 }
 
+/** Has the traps of a class of proxies' handlers throw the exceptions of the handler's realm. */
+export function guardTraps({ prototype }) {
+  for (const name of Object.getOwnPropertyNames(prototype).filter((it) => it !== "constructor")) {
+    const trap = prototype[name];
+    // (written out: a list of arguments takes longer, and no trap has more)
+    prototype[name] = function (target, key, value, receiver) {
+      try {
+        return trap.call(this, target, key, value, receiver);
+      } catch (fault) {
+        throw this.realm.thrown(fault);
+      }
+    };
+  }
+}
+
 /** Refuses a value where another kind is expected. */
 export const refuseOther = (expected, value) => refuseType(`expected ${expected}, not ${describe(value)}`);
 
@@ -328,9 +343,9 @@ function constructorOf(realm, table) {
 export function makeInterface(realm, table, Base) {
   const made = constructorOf(realm, table);
   const Maker = class extends Base {
-    // (a constructor that is written out takes its arguments without a list of them)
-    constructor(its, object) {
-      super(its, object);
+    // (a constructor that is written out takes its argument without a list of them)
+    constructor(its) {
+      super(its);
     }
   };
   realm.makers[table.name] = Base.makerOf(Maker);

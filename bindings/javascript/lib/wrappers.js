@@ -23,12 +23,13 @@ const NEXT_AT = 4;
 const FIRST_AT = 5;
 const LAST_AT = 6;
 
-/** Up to this many wrapped children are searched one by one; if there are more, a table finds them by number. */
+/** Up to this many wrapped children are searched one by one. More are moved into a table by number when one is first looked for. */
 const FEW = 8;
 
 const CHILD = 1;
 const KNOWN = 2;
 const HELD = 4;
+const TABLED = 8;
 
 // ---- A cache of the nodes that were made or found last, by number. It is held until the program waits, and then until the next garbage collection.
 
@@ -71,56 +72,59 @@ const endsOf = (kind) => (mayHaveChildren(kind) ? undefined : null);
 
 /** The state of a node's object. It has other nodes by their states. */
 class NodeIs {
-  constructor(session, number, kind, realm) {
-    // (the fields that are read most are first, and so together in memory)
+  constructor(session, number, kind, realm, name, end) {
+    // (the fields that a walk reads are first, and so together in memory)
     this.session = session;
-    this.kind = kind;
-    // What an element's name says (see names.js), and its attributes (see attributes.js); of a text its data, as long as the links hold.
-    this.name = null;
-    this.values = null;
-    this.kept = null;
-    this.object = null;
     // The links to its neighbours, and the count of the session for which they are valid: none is known yet.
     this.stamp = session.links;
-    this.first = endsOf(kind);
+    this.first = end;
     this.next = undefined;
-    this.previous = undefined;
-    this.last = this.first;
+    this.object = null;
     // The parent, or the Document of a root.
     this.above = null;
-    // Whether it is a child, whether the session finds it by its number, and whether it holds it until the program waits: a bit each.
+    // Whether it is a child, whether the session finds it by its number and holds it until the program waits, and whether it has a table: a bit each.
     this.state = 0;
+    this.kind = kind;
+    // What an element's name says (see names.js), and its attributes (see attributes.js); of a text its data, as long as the links hold.
+    this.name = name;
+    this.values = null;
+    this.previous = undefined;
+    this.last = end;
     this.number = number;
+    this.kept = null;
     this.realm = realm;
-    // The wrapped children in no order: the first, for each the one behind it and the one ahead of it, and the table of many.
+    // The wrapped children in no order: the first, and for each the one behind it and the one ahead of it; or a table of them.
     this.below = null;
     this.behind = null;
     this.ahead = null;
-    this.table = null;
     session.marks.add(number);
-    remember(this);
   }
 
   // ---- The wrapped children of a parent.
 
   leave() {
     const { above, ahead, behind } = this;
-    if (ahead) ahead.behind = behind;
-    else above.below = behind;
-    if (behind) behind.ahead = ahead;
-    if (above.table !== null) above.table.delete(this.number);
+    if ((above.state & TABLED) !== 0) above.below.delete(this.number);
+    else if (ahead === null) above.below = behind;
+    if (ahead !== null) ahead.behind = behind;
+    if (behind !== null) behind.ahead = ahead;
     this.ahead = this.behind = this.above = null;
     this.state &= ~CHILD;
   }
 
   enter(parent) {
-    const first = parent.below;
-    this.behind = first;
-    if (first) first.ahead = this;
-    parent.below = this;
-    if (parent.table !== null) parent.table.set(this.number, this);
+    if ((parent.state & TABLED) !== 0) parent.below.set(this.number, this);
+    else this.chain(parent);
     this.above = parent;
     this.state |= CHILD;
+  }
+
+  /** Puts it ahead of the wrapped children of a parent that has no table. */
+  chain(parent) {
+    const first = parent.below;
+    this.behind = first;
+    if (first !== null) first.ahead = this;
+    parent.below = this;
   }
 
   place(parent) {
@@ -149,13 +153,22 @@ class NodeIs {
 
   /** Returns the state of a wrapped child by its number, or undefined. */
   child(number) {
-    if (this.table !== null) return this.table.get(number);
+    if ((this.state & TABLED) !== 0) return this.below.get(number);
     let it = this.below;
     for (let count = 0; it !== null && count < FEW; it = it.behind, count++) if (it.number === number) return it;
     if (it === null) return undefined;
-    this.table = new Map();
-    for (it = this.below; it !== null; it = it.behind) this.table.set(it.number, it);
-    return this.table.get(number);
+    this.tabulate();
+    return this.below.get(number);
+  }
+
+  tabulate() {
+    const table = new Map();
+    for (const it of this.wrapped()) {
+      table.set(it.number, it);
+      it.ahead = it.behind = null;
+    }
+    this.below = table;
+    this.state |= TABLED;
   }
 
   /** Returns the state of a child by its number; makes its wrapper if there is none. */
@@ -171,15 +184,17 @@ class NodeIs {
 
   /** Returns the state of a child by its number, with valid links; makes its wrapper by its kind, name and count of children if there is none. */
   adopted(number, kind, name, count) {
-    const { session } = this;
+    const { session, realm } = this;
     const found = session.marks.has(number) ? this.child(number) : undefined;
     if (found !== undefined) {
       found.fresh();
       return found;
     }
-    const made = make(session, number, kind, this.realm, kind === ELEMENT ? elementByNumber(session, name) : null);
+    const its = kind === ELEMENT ? elementByNumber(session, name) : null;
+    // (the cache of nodes gets those alone that have several children: a write into it takes long, and the others are found from these)
+    const made = new NodeIs(session, number, kind, realm, its, count === 0 ? null : endsOf(kind));
+    makerOf(session, number, kind, realm, its).make(made);
     made.enter(this);
-    if (count === 0 && mayHaveChildren(kind)) made.first = made.last = null;
     return made;
   }
 
@@ -407,6 +422,7 @@ class NodeIs {
 
   /** The wrapped children. */
   wrapped() {
+    if ((this.state & TABLED) !== 0) return [...this.below.values()];
     const found = [];
     for (let it = this.below; it !== null; it = it.behind) found.push(it);
     return found;
@@ -465,6 +481,7 @@ const [NUMBER, KIND, DEPTH, NAME, COUNT, ROW] = [0, 1, 2, 3, 4, 5];
 /** Makes objects of rows in tree order, and links them; the first is answered. */
 function linked(parent, from, count, isWhole) {
   parent.fresh();
+  let first = null;
   let last = null;
   let level = -1;
   for (let at = from; at < from + count; at += ROW) {
@@ -476,15 +493,18 @@ function linked(parent, from, count, isWhole) {
     if (depth <= level) {
       last.next = its;
       its.previous = last;
+      if (last.previous === null) remember(above);
     } else if (depth > 0) {
       above.first = its;
       its.previous = null;
     }
+    first ??= its;
     last = its;
     level = depth;
   }
+  // (which has both forgotten once the program waits)
+  if (recent === null) recentNow();
   frontier = last;
-  const first = parent.child(words[from + NUMBER]);
   if (isWhole) up(last, level, -1);
   return first;
 }
@@ -510,14 +530,18 @@ function Given(object) {
   return object;
 }
 
-/** An object of a node, of whatever interface: a class of a realm stands between. An object that is given becomes that of the node. */
-export class Wrapper extends Given {
-  #its;
+/** The state of the node whose object is being made. */
+let coming = null;
 
-  constructor(its, object) {
+/**
+ * An object of a node, of whatever interface: a class of a realm stands between. An object that is given becomes that of the node. The field is set as it is
+ * made, which an engine does faster than a second write.
+ */
+export class Wrapper extends Given {
+  #its = coming;
+
+  constructor(object) {
     super(object);
-    this.#its = its;
-    its.object = this;
   }
 
   /** What makes objects of an interface, whose class stands between this one and its objects. */
@@ -541,7 +565,9 @@ class Maker {
   }
 
   make(its) {
-    return this.Bare === null ? new this.Between(its) : new Wrapper(its, new this.Bare());
+    coming = its;
+    its.object = this.Bare === null ? new this.Between() : new Wrapper(new this.Bare());
+    coming = null;
   }
 }
 
@@ -609,13 +635,12 @@ function makerOf(session, number, kind, realm, name) {
   return kind === DOCUMENT && documentIs(session, number).isXMLDocument ? realm.makers.XMLDocument : realm.kinds[kind];
 }
 
-/** A new wrapper of a node; what it knows is answered. */
+/** Makes an object of a node; returns its state. */
 function make(session, number, kind, realm, name = null) {
   const known = name === null && kind === ELEMENT && realm.elementMaker ? nameAsked(session, number) : name;
-  const maker = makerOf(session, number, kind, realm, known);
-  const its = new NodeIs(session, number, kind, realm);
-  its.name = known;
-  maker.make(its);
+  const its = new NodeIs(session, number, kind, realm, known, endsOf(kind));
+  makerOf(session, number, kind, realm, known).make(its);
+  remember(its);
   return its;
 }
 
@@ -770,7 +795,7 @@ export function detach(nodes, document) {
 /** A wrapper and all wrappers below it. */
 export function wrappedBelow(node) {
   const found = [node];
-  for (let at = 0; at < found.length; at++) for (let it = itsOf(found[at]).below; it !== null; it = it.behind) found.push(it.object);
+  for (const it of found) childrenOf(it).forEach((child) => found.push(child));
   return found;
 }
 

@@ -4,6 +4,7 @@ import test from "node:test";
 
 import { native } from "../lib/core.js";
 import { createDocument, createWindow, DOMException, memory, NodeFilter, serialize, Session, XMLDocument } from "../lib/index.js";
+import { sessionOf } from "../lib/wrappers.js";
 
 const HTML = "http://www.w3.org/1999/xhtml";
 const SVG = "http://www.w3.org/2000/svg";
@@ -283,6 +284,18 @@ test("a list of classes is refused if out of memory, and is read later", () => {
   }
   assert.equal(list.length, items.length);
   assert.equal(list.item(0), root.firstChild);
+});
+
+test("lists of a closed session refuse by exceptions of their realm", () => {
+  const window = createWindow();
+  const { document } = window;
+  const root = document.createElement("p");
+  const lists = [root.childNodes, root.children, document.getElementsByTagName("p"), document.getElementsByClassName("a")];
+  sessionOf(document).close();
+  const descriptor = (list) => Object.getOwnPropertyDescriptor(list, 0);
+  const reads = [(list) => list[0], (list) => list.length, (list) => 0 in list, (list) => [...list], Object.keys, descriptor];
+  const isOwn = (fault) => fault instanceof window.DOMException && fault.name === "InvalidStateError";
+  for (const list of lists) for (const read of reads) assert.throws(() => read(list), isOwn, `${read}`);
 });
 
 test("a line that is refused memory has no reply", () => {

@@ -126,6 +126,13 @@ for (const [name, [missing, Kind]] of Object.entries(BROWSERS)) {
   });
 }
 
+test("a process imports the package in at most 120 ms of its processor time", () => {
+  const lines = 'const before = process.cpuUsage();\nawait import("huckleport");\nconst { user, system } = process.cpuUsage(before);\nconsole.log((user + system) / 1000);';
+  const file = written("time.mjs", lines);
+  const times = Array.from({ length: 5 }, () => Number(ran(file)));
+  assert.ok(Math.min(...times) < 120, `${times}`);
+});
+
 test("the fields of package.json name what a registry shows, and files that are there", () => {
   for (const name of ["author", "homepage", "repository", "license", "description", "sideEffects"]) assert.ok(manifest[name], name);
   const paths = Object.values(manifest.exports).flatMap((it) => (typeof it === "string" ? [it] : Object.values(it)));

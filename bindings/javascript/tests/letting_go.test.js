@@ -119,6 +119,22 @@ test("a tree that is in use goes once it is in use no more", async () => {
   assert.ok(!isThere(session, number));
 });
 
+test("a tree goes after it was walked in a later turn", async () => {
+  const session = new Session();
+  const { document } = session;
+  let copy = (() => {
+    const root = document.createElement("p");
+    root.appendChild(document.createElement("b")).appendChild(document.createElement("i")).append("text");
+    return root.cloneNode(true);
+  })();
+  const number = session.number(copy);
+  await collect();
+  for (let node = copy; node; node = node.firstChild) assert.equal(node.nextSibling, null);
+  copy = null;
+  await collect(8);
+  assert.ok(!isThere(session, number));
+});
+
 /** Returns what alone leads to a tree when its objects are gone, and a function that returns the root's new object. */
 const LEADING = {
   "a range that was moved": (document, root) => {
@@ -256,20 +272,27 @@ test("sessions that nothing holds are closed", async () => {
   assert.ok(memory.held < before + 1e5, `${before} ${memory.held}`);
 });
 
-test("100,000 nodes with their objects take at most 120 MB of the process", () => {
+test("100,000 nodes with their objects take at most 120 MB of the process, and 420 bytes each", () => {
   const program = `
-    const { createDocument } = await import(${JSON.stringify(`${new URL("../lib/index.js", import.meta.url)}`)});
+    const { createDocument, memory } = await import(${JSON.stringify(`${new URL("../lib/index.js", import.meta.url)}`)});
+    const bytes = () => {
+      globalThis.gc();
+      return process.memoryUsage().heapUsed + memory.held;
+    };
     const document = createDocument();
     const root = document.appendChild(document.createElement("ul"));
     const kept = [];
+    const before = bytes();
     for (let at = 0; at < 50000; at++) {
       const item = root.appendChild(document.createElement("li"));
       kept.push(item, item.appendChild(document.createTextNode("some text")));
     }
     await new Promise((ready) => setTimeout(ready, 100));
-    console.log(process.memoryUsage().rss, kept.length);`;
-  const ran = spawnSync(process.execPath, ["--input-type=module", "-e", program], { encoding: "utf8" });
-  const [rss, count] = ran.stdout.split(" ").map(Number);
+    const { rss } = process.memoryUsage();
+    console.log(rss, kept.length, (bytes() - before) / kept.length);`;
+  const ran = spawnSync(process.execPath, ["--expose-gc", "--input-type=module", "-e", program], { encoding: "utf8" });
+  const [rss, count, each] = ran.stdout.split(" ").map(Number);
   assert.equal(count, 100000, ran.stderr);
   assert.ok(rss < 120e6, `${rss}`);
+  assert.ok(each < 420, `${each}`);
 });

@@ -178,7 +178,7 @@ static PyMethodDef *member_named(PyMethodDef *members, const char *name)
 }
 
 /* A copy that stays, by the last part of its name, with the text of a docstring. */
-static PyObject *member_made(const State *state, const PyMethodDef *from, const char *doc)
+static PyObject *member_made(PyObject *kind, const PyMethodDef *from, const char *doc)
 {
     size_t length = strlen(doc) + 1;
     PyMethodDef *it = PyMem_Malloc(sizeof(PyMethodDef) + length);
@@ -189,7 +189,7 @@ static PyObject *member_made(const State *state, const PyMethodDef *from, const 
     *it = *from;
     it->ml_name = strchr(from->ml_name, '.') + 1;
     it->ml_doc = text;
-    return PyDescr_NewMethod(state->thing_type, it);
+    return PyDescr_NewMethod((PyTypeObject *)kind, it);
 }
 
 static const PyMethodDef *member_of(const char *name)
@@ -198,13 +198,24 @@ static const PyMethodDef *member_of(const char *name)
     return found ? found : member_named(members_made, name);
 }
 
+/* Reads a class, the name of a member with that of its class, and a docstring. A member takes objects of its class alone. */
+static bool is_member_read(PyObject *self, PyObject *words, PyObject **kind, const char **name, const char **doc)
+{
+    if (!PyArg_ParseTuple(words, "O!ss", &PyType_Type, kind, name, doc))
+        return false;
+    if (PyObject_IsSubclass(*kind, (PyObject *)state_of(self)->thing_type) == 1)
+        return true;
+    return PyErr_Occurred() ? false : is_not_due("class of objects of a session", *kind);
+}
+
 static PyObject *module_member(PyObject *self, PyObject *words)
 {
+    PyObject *kind = NULL;
     const char *name = NULL, *doc = NULL;
-    if (!PyArg_ParseTuple(words, "ss", &name, &doc))
+    if (!is_member_read(self, words, &kind, &name, &doc))
         return NULL;
     const PyMethodDef *found = member_of(name);
-    return found ? member_made(state_of(self), found, doc) : none();
+    return found ? member_made(kind, found, doc) : none();
 }
 
 /* ---- members that are asked for without a call */
@@ -235,7 +246,7 @@ static int attribute_set(PyObject *self, PyObject *value, void *closure)
 }
 
 /* An attribute that stays, with the text of a docstring. */
-static PyObject *attribute_made(const State *state, const PyMethodDef *get, const PyMethodDef *set, const char *doc)
+static PyObject *attribute_made(PyObject *kind, const PyMethodDef *get, const PyMethodDef *set, const char *doc)
 {
     size_t length = strlen(doc) + 1;
     Attribute *it = PyMem_Malloc(sizeof(Attribute) + length);
@@ -244,14 +255,15 @@ static PyObject *attribute_made(const State *state, const PyMethodDef *get, cons
     char *text = (char *)(it + 1);
     memcpy(text, doc, length);
     *it = (Attribute){ get, set, { (char *)strchr(get->ml_name, '.') + 1, attribute_get, set ? attribute_set : NULL, text, it } };
-    return PyDescr_NewGetSet(state->thing_type, &it->told);
+    return PyDescr_NewGetSet((PyTypeObject *)kind, &it->told);
 }
 
 static PyObject *module_attribute(PyObject *self, PyObject *words)
 {
+    PyObject *kind = NULL;
     const char *name = NULL, *doc = NULL;
     char setting[64];
-    if (!PyArg_ParseTuple(words, "ss", &name, &doc))
+    if (!is_member_read(self, words, &kind, &name, &doc))
         return NULL;
     size_t length = strlen(name);
     if (length + 2 > sizeof(setting))
@@ -259,7 +271,7 @@ static PyObject *module_attribute(PyObject *self, PyObject *words)
     memcpy(setting, name, length);
     memcpy(setting + length, "=", 2);
     const PyMethodDef *get = member_of(name), *set = member_of(setting);
-    return get ? attribute_made(state_of(self), get, set, doc) : none();
+    return get ? attribute_made(kind, get, set, doc) : none();
 }
 
 /* What makes a tuple of any class: that of a class which leaves it as it is. (The slots of tuple itself are hidden before 3.10.) */
@@ -273,8 +285,8 @@ static newfunc tuple_maker(void)
 
 static PyMethodDef module_methods[] = {
     { "settle", module_settle, METH_O, "Takes the classes and functions of the package, by their names." },
-    { "member", module_member, METH_VARARGS, "A method by its class and name, with a docstring, or None." },
-    { "attribute", module_attribute, METH_VARARGS, "An attribute by its class and name, with a docstring, or None." },
+    { "member", module_member, METH_VARARGS, "A method of a class, by the name of both, with a docstring, or None." },
+    { "attribute", module_attribute, METH_VARARGS, "An attribute of a class, by the name of both, with a docstring, or None." },
     { NULL, NULL, 0, NULL },
 };
 

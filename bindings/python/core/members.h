@@ -456,28 +456,35 @@ static bool has_first_child(hp_session *session, uint32_t node, uint32_t *child,
     return hp_first_child(session, node, child) == HP_OK && *child != HP_NONE && hp_links(session, *child, links) == HP_OK;
 }
 
-/* Whether the tree that was gone through last has a node with one child, which is a Text. The nodes of a parser or a copy are numbered in tree order,
- * so that the place of one is most often told by its number. */
-static bool is_one_text_known(const Order *order, uint32_t node, uint32_t *child)
+/* Returns the one child of a node if that is a Text, or HP_NONE. */
+static __attribute__((noinline)) uint32_t one_text_asked(hp_session *session, uint32_t node)
 {
-    size_t at = order->length ? (size_t)node - order->at[0].number : 0;
-    if (at + 1 >= order->length || order->at[at].number != node)
-        return false;
-    const Ranked *it = &order->at[at];
-    *child = it[1].number;
-    return it[1].kind == KIND_TEXT && it[1].depth > it->depth && (at + 2 == order->length || it[2].depth <= it->depth);
+    uint32_t child = HP_NONE;
+    hp_node_links links;
+    return has_first_child(session, node, &child, &links) && links.kind == KIND_TEXT && links.next == HP_NONE ? child : HP_NONE;
+}
+
+/* Whether the node of a row of a tree that was gone through has one child, which is a Text. Behind it are rows up to an end. */
+static inline bool has_one_text(const Ranked *it, const Ranked *end)
+{
+    return it + 1 < end && it[1].kind == KIND_TEXT && it[1].depth == it->depth + 1u && (it + 2 == end || it[2].depth <= it->depth);
+}
+
+/* Returns the one child of a node if that is a Text, or HP_NONE. The tree that was gone through last answers if it has the node. The nodes of a parser
+ * or a copy are numbered in tree order, so that the place of one is most often told by its number. */
+static inline uint32_t one_text(Calls *calls, uint32_t node)
+{
+    const Ranked *first = calls->order.at, *end = first + calls->order.length;
+    const size_t at = first == end ? 0 : (size_t)node - first->number;
+    bool is_known = at < calls->order.length && first[at].number == node && has_one_text(first + at, end);
+    return is_known ? first[at + 1].number : one_text_asked(&calls->session, node);
 }
 
 /* Whether a node has one child, which is a Text: its data is lent. */
-static bool is_one_text(Calls *calls, uint32_t node, hp_text_view *to)
+static inline bool is_one_text(Calls *calls, uint32_t node, hp_text_view *to)
 {
-    hp_session *session = &calls->session;
-    uint32_t child = HP_NONE;
-    hp_node_links links;
-    bool is_one = is_one_text_known(&calls->order, node, &child);
-    if (!is_one && (!has_first_child(session, node, &child, &links) || links.kind != KIND_TEXT || links.next != HP_NONE))
-        return false;
-    return hp_data_of(session, child, to) == HP_OK;
+    uint32_t child = one_text(calls, node);
+    return child != HP_NONE && hp_data_of(&calls->session, child, to) == HP_OK;
 }
 
 /* The text in a node. Fast path: a node with one child that is a Text, other than a Document, which has none. */

@@ -1,4 +1,4 @@
-/* The library's memory: its calls of malloc, realloc and free are linked to these (--wrap). Blocks of a size stand side by side in slabs, and one
+/* The library's memory. Its three functions for memory are here, in place of those of the archive. Blocks of a size are side by side in slabs, and one
  * that is freed is the next to be taken. A long call runs without the lock of the interpreter, so there is a lock here. A thread may own it for a
  * whole call, and releases it amid the call if another thread wants it. */
 #ifndef HUCKLEPORT_MEMORY_H
@@ -13,12 +13,15 @@
 #define __has_builtin(name) 0
 #endif
 
-void *__real_malloc(size_t size);
-void *__real_realloc(void *at, size_t size);
-void __real_free(void *at);
-void *__wrap_malloc(size_t size);
-void *__wrap_realloc(void *at, size_t size);
-void __wrap_free(void *at);
+/* Memory that was taken, unless is_there is 0; at is never null. */
+typedef struct {
+    size_t is_there;
+    void *at;
+} Room;
+
+Room rattle_alloc(size_t size, size_t alignment);
+Room rattle_realloc(void *at, size_t had, size_t size, size_t alignment);
+void rattle_dealloc(void *at);
 
 /* A block consists of grains. A word ahead of the memory that is handed out holds their number: 0 for a block that malloc has made. */
 enum { GRAIN = 16, WORD = 8, MOST_GRAINS = 33, MOST_SIZE = GRAIN * (MOST_GRAINS - 1) - WORD, SLAB = 1 << 18 };
@@ -30,21 +33,20 @@ typedef struct Block {
 } Block;
 
 /* Freed blocks by their sizes; the slabs, and the spare ones; where the free part of the last slab begins and ends; and how many blocks are in use.
- * Each slab begins with a link to the next. Then the lock; the thread that owns it for a call, or 0; and whether another thread wants it. */
+ * Each slab begins with a link to the next. Then the lock; the thread that owns it for a call, or 0; and the same, or 0 once another thread waits. */
 static struct {
     Block *free[MOST_GRAINS];
     Block *slabs, *spare;
     char *at, *end;
     size_t used;
     bool is_locked;
-    uintptr_t owner;
-    bool is_wanted;
+    uintptr_t owner, undisturbed;
 } memory;
 
 static void memory_lock(void)
 {
     for (int tries = 0; __atomic_test_and_set(&memory.is_locked, __ATOMIC_ACQUIRE); tries++) {
-        __atomic_store_n(&memory.is_wanted, true, __ATOMIC_RELAXED);
+        __atomic_store_n(&memory.undisturbed, 0, __ATOMIC_RELAXED);
         if (tries % 64 == 63)
             sched_yield();
     }
@@ -74,13 +76,13 @@ static inline bool is_memory_owned(void)
 /* Whether this thread owns the lock, and no other thread waits for it. */
 static inline bool is_memory_mine(void)
 {
-    return is_memory_owned() && !__atomic_load_n(&memory.is_wanted, __ATOMIC_RELAXED);
+    return __atomic_load_n(&memory.undisturbed, __ATOMIC_RELAXED) == this_thread();
 }
 
 static __attribute__((noinline)) void memory_taken(void)
 {
     memory_lock();
-    __atomic_store_n(&memory.is_wanted, false, __ATOMIC_RELAXED);
+    __atomic_store_n(&memory.undisturbed, this_thread(), __ATOMIC_RELAXED);
     __atomic_store_n(&memory.owner, this_thread(), __ATOMIC_RELAXED);
 }
 
@@ -96,6 +98,7 @@ static void memory_release(void)
 {
     if (!is_memory_owned())
         return;
+    __atomic_store_n(&memory.undisturbed, 0, __ATOMIC_RELAXED);
     __atomic_store_n(&memory.owner, 0, __ATOMIC_RELAXED);
     memory_unlock();
 }
@@ -129,7 +132,7 @@ static size_t *word_of(void *at)
 /* Begins a slab, where there is memory for it. */
 static bool slab_made(void)
 {
-    Block *slab = memory.spare ? memory.spare : __real_malloc(SLAB);
+    Block *slab = memory.spare ? memory.spare : malloc(SLAB);
     if (!slab)
         return false;
     memory.spare = memory.spare ? slab->next : NULL;
@@ -152,19 +155,23 @@ static __attribute__((noinline)) void *block_made(size_t grains)
     return found;
 }
 
-/* Takes a block under the lock. That which is taken next of its size is fetched into the cache, since what it begins with is read then. */
+/* Takes a freed block under the lock. The next of its size is fetched into the cache, since its link is read then. */
+static inline void *block_reused(Block *it, size_t grains)
+{
+    memory.free[grains] = it->next;
+    __builtin_prefetch(it->next, 1);
+    memory.used++;
+    return it;
+}
+
+/* Takes a block under the lock. */
 static inline void *block_taken(size_t grains)
 {
     Block *found = memory.free[grains];
-    if (!found)
-        return block_made(grains);
-    memory.free[grains] = found->next;
-    __builtin_prefetch(found->next, 1);
-    memory.used++;
-    return found;
+    return found ? block_reused(found, grains) : block_made(grains);
 }
 
-static __attribute__((noinline)) void *block_taken_once(size_t grains)
+static void *block_taken_once(size_t grains)
 {
     memory_lock_once();
     void *found = block_taken(grains);
@@ -195,7 +202,7 @@ static void slabs_freed(Block *slabs)
 {
     while (slabs) {
         Block *next = slabs->next;
-        __real_free(slabs);
+        free(slabs);
         slabs = next;
     }
 }
@@ -225,18 +232,22 @@ static void *large_made(char *found)
     return found + GRAIN;
 }
 
-/* (Seldom used code is a function of its own, so that the usual way saves no registers.) */
-static __attribute__((noinline)) void *large_taken(size_t size)
+static void *large_taken(size_t size)
 {
-    return size > SIZE_MAX - GRAIN ? NULL : large_made(__real_malloc(size + GRAIN));
+    return size > SIZE_MAX - GRAIN ? NULL : large_made(malloc(size + GRAIN));
 }
 
-void *__wrap_malloc(size_t size)
+/* The grains of a block for a size, which may be 0. */
+static inline size_t grains_for(size_t size)
 {
-    size_t grains = (size + WORD + GRAIN - 1) / GRAIN;
+    return (size + WORD + GRAIN - 1) / GRAIN;
+}
+
+static void *taken(size_t size)
+{
     if (size > MOST_SIZE)
         return large_taken(size);
-    return is_memory_mine() ? block_taken(grains) : block_taken_once(grains);
+    return is_memory_mine() ? block_taken(grains_for(size)) : block_taken_once(grains_for(size));
 }
 
 static __attribute__((noinline)) void slabs_left_and_freed(void)
@@ -244,13 +255,13 @@ static __attribute__((noinline)) void slabs_left_and_freed(void)
     slabs_freed(slabs_left());
 }
 
-void __wrap_free(void *at)
+void rattle_dealloc(void *at)
 {
     size_t grains = at ? *word_of(at) : 0;
     if (!at)
         return;
     if (!grains)
-        __real_free((char *)at - GRAIN);
+        free((char *)at - GRAIN);
     else if (!is_memory_mine())
         block_left_once(at, grains);
     else if (is_last_left(at, grains))
@@ -258,19 +269,46 @@ void __wrap_free(void *at)
 }
 
 /* (A block that malloc has made has more than MOST_SIZE bytes, so that a smaller size is copied from within it.) */
-void *__wrap_realloc(void *at, size_t size)
+static void *retaken(void *at, size_t size)
 {
     size_t grains = at ? *word_of(at) : 0, room = grains * GRAIN - (grains ? WORD : 0);
     if (at && !grains && size > MOST_SIZE)
-        return size > SIZE_MAX - GRAIN ? NULL : large_made(__real_realloc((char *)at - GRAIN, size + GRAIN));
+        return size > SIZE_MAX - GRAIN ? NULL : large_made(realloc((char *)at - GRAIN, size + GRAIN));
     if (grains && size <= room)
         return at;
-    void *found = __wrap_malloc(size);
+    void *found = taken(size);
     if (found && at)
         memcpy(found, at, grains && room < size ? room : size);
     if (found)
-        __wrap_free(at);
+        rattle_dealloc(at);
     return found;
+}
+
+static inline Room room_of(void *at)
+{
+    static char nothing;
+    return (Room){ at != NULL, at ? at : &nothing };
+}
+
+/* (Seldom used code is a function of its own, so that the usual way saves no registers.) */
+static __attribute__((noinline)) Room room_taken(size_t size)
+{
+    return room_of(taken(size));
+}
+
+/* Takes memory for a size. Each block is aligned to a grain, which is enough for all types. */
+Room rattle_alloc(size_t size, size_t alignment)
+{
+    (void)alignment;
+    Block *found = size <= MOST_SIZE && is_memory_mine() ? memory.free[grains_for(size)] : NULL;
+    return found ? (Room){ 1, block_reused(found, grains_for(size)) } : room_taken(size);
+}
+
+Room rattle_realloc(void *at, size_t had, size_t size, size_t alignment)
+{
+    (void)had;
+    (void)alignment;
+    return room_of(retaken(at, size));
 }
 
 #endif

@@ -116,15 +116,19 @@ static bool is_answer_copied(Calls *calls);
 /* Frees the records and the notices that the session has for later. */
 static void drop_taken(Calls *calls);
 
-/* Checks whether a call can't be made, and raises why. (While it is raised a long call of another thread may end.) */
-static bool is_busy(Calls *it)
+/* Copies an answer that waits for room. If that fails, or another thread is in a long call, it raises and returns true. */
+static __attribute__((noinline)) bool is_made_to_wait(Calls *it)
 {
-    if (it->busy == FREE)
-        return false;
     if (it->busy == HAS_ANSWER)
         return !is_answer_copied(it);
     raise_ours("SessionInUse", PyUnicode_FromString("another thread is in a long call of this session"));
     return true;
+}
+
+/* Checks whether a call can't be made, and raises why. (While it is raised a long call of another thread may end.) */
+static inline bool is_busy(Calls *it)
+{
+    return it->busy != FREE && is_made_to_wait(it);
 }
 
 /* Checks whether the call that closes the session can't be made, and raises why. Frees the records and notices for later, unless a long call runs. */

@@ -42,12 +42,17 @@ def _spelled(name: str, it: FunctionType) -> str:
     return f"{name}({', '.join(['$self', '/', *words])})\n--\n\n{it.__doc__ or ''}"
 
 
+def _family(kind: type) -> type:
+    """Returns the class of all objects whose numbers are of one family, as Node: a member of one takes each."""
+    return next(it for it in kind.__mro__ if "_family" in vars(it))
+
+
 def _in_core(kind: type, name: str, it: Any) -> Any:
     """What the extension module has in place of a member, or None."""
     if isinstance(it, property):
-        found = core.attribute(f"{kind.__name__}.{name}", it.__doc__ or "")
-        return found if it.fset is None or core.member(f"{kind.__name__}.{name}=", "") else found and property(found.__get__, it.fset, None, it.__doc__)
-    return core.member(f"{kind.__name__}.{name}", _spelled(name, it)) if isinstance(it, FunctionType) else None
+        found = core.attribute(_family(kind), f"{kind.__name__}.{name}", it.__doc__ or "")
+        return found if it.fset is None or core.member(_family(kind), f"{kind.__name__}.{name}=", "") else found and property(found.__get__, it.fset, None, it.__doc__)
+    return core.member(_family(kind), f"{kind.__name__}.{name}", _spelled(name, it)) if isinstance(it, FunctionType) else None
 
 
 def quick(kind: K) -> K:

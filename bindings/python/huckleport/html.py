@@ -22,7 +22,7 @@ from .session import Session
 
 __all__ = ["PARSER", "Parser", "SlowParser", "parse", "parse_fragment", "serialize", "tostring", "write"]  # noqa: F822
 
-SLOW = "pages are parsed by html5lib, since html5-parser is not here, which takes a tenth of the time: pip install html5-parser (or huckleport[quick-html]); lxml is as quick, for HTML 4: parser='lxml'"
+SLOW = "pages are parsed by html5lib, which takes ten times as long as html5-parser: pip install html5-parser (or huckleport[quick-html]), or choose parser='lxml', which is quicker still and parses HTML 4"
 MISSING = "HTML is parsed by html5-parser or html5lib, and neither is here: pip install html5lib (or huckleport[html]), or choose parser='lxml' if lxml is here"
 # The parsers, and the modules that they need.
 PARSERS = {"html5-parser": "html5_parser", "html5lib": "html5lib", "lxml": "lxml"}

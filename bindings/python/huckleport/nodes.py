@@ -4,7 +4,6 @@ from __future__ import annotations
 
 from typing import TYPE_CHECKING, Any, Dict, Iterator, List, NamedTuple, Optional, Tuple, Type, TypeVar, Union, overload
 
-from . import _signatures as made
 from . import _tree
 from ._calls import InCore, quick
 from .attributes import Attributes

@@ -2,14 +2,11 @@
 
 from __future__ import annotations
 
-from typing import TYPE_CHECKING, Optional, Type, TypeVar
+from typing import Optional, Type, TypeVar
 
 from ._calls import Thing
 from ._signatures import HP_NONE
 from .errors import BadType, BadValue, Error
-
-if TYPE_CHECKING:
-    from .session import Session
 
 K = TypeVar("K", bound="SessionObject")
 

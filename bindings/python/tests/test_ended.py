@@ -119,6 +119,71 @@ replies.append(session.line(line))
 print(len(replies) > 2, replies == [b'{"ok":%d}\\n' % number for number in range(1, len(replies) + 1)])
 """
 
+PASTE = """
+import resource, sys
+import huckleport as h
+
+UNITS = int(sys.argv[1])
+FURTHER = ['["appendData",2," more"]', '["setAttribute",1,"a","b"]', '["createElement",0,"p"]', '["appendChild",1,3]', '["replaceData",2,0,3,"x"]']
+ASKED = ['["tree",0]', '["data",2]', '["range",0]', '["takeRecords",1]', '["nextNode",0]']
+
+
+class Page:
+    def __init__(self):
+        self.session = h.Session()
+        document = self.session.document
+        self.root = document.append_child(document.create_element("root"))
+        self.text = self.root.append_child(document.create_text_node("some text"))
+        self.history, self.told = h.History(self.root), []
+        self.observer = self.session.create_mutation_observer(lambda records, observer: self.told.extend(records))
+        self.observer.observe(self.root, character_data_old_value=True, subtree=True)
+        self.bookmark, self.iterator = document.create_range(), document.create_node_iterator(self.root)
+        self.bookmark.select_node_contents(self.text)
+        with self.history.group():
+            self.text.insert_data(0, "here is ")
+        self.session.notify()
+
+    def state(self):
+        notices, is_changed = self.session.notify(), self.history.commit()
+        return self.text.data, h.xml.serialize(self.root), self.bookmark.end_offset, len(self.told), notices, is_changed, len(self.history._done)
+
+    def replies(self):
+        return [self.session.line(it.encode()) for it in FURTHER + [it for _ in range(40) for it in FURTHER[:2] + ASKED]]
+
+
+def room():
+    with open("/proc/self/statm") as it:
+        return int(it.read().split()[0]) * resource.getpagesize()
+
+
+def is_pasted(page, more):
+    # Pastes with so much more memory than is taken now.
+    limits = resource.getrlimit(resource.RLIMIT_AS)
+    resource.setrlimit(resource.RLIMIT_AS, (room() + more, limits[1]))
+    try:
+        page.text.append_data(paste)
+        return True
+    except MemoryError as fault:
+        kinds.add(type(fault))
+        return False
+    finally:
+        resource.setrlimit(resource.RLIMIT_AS, limits)
+
+
+paste, kinds, wrong = "x" * UNITS, set(), []
+state, replies = Page().state(), Page().replies()
+for more in range(0, 16 * UNITS, UNITS // 2):
+    page = Page()
+    if is_pasted(page, more):
+        break
+    if page.state() != state or page.replies() != replies:
+        wrong.append(more)
+print(kinds == {MemoryError, h.OutOfMemory}, wrong)
+print(page.text.data == "here is some text" + paste, len(page.session.notify()), page.told[-1].old_value)
+print(page.history.undo(), page.text.data, page.history.undo(), page.text.data, page.history.undo())
+"""
+
+PASTED = "True []\nTrue 2 here is some text\nTrue here is some text True some text False\n"
 DUE = "read True\nread True\nout-of-memory\nno-such-object\n<p></p>\nclosed\n"
 
 
@@ -131,6 +196,12 @@ class Ended(unittest.TestCase):
     def test_a_line_that_is_refused_memory_has_no_reply(self):
         ran = subprocess.run([sys.executable, "-c", LINES], stdout=subprocess.PIPE, stderr=subprocess.STDOUT, universal_newlines=True)
         self.assertEqual(ran.stdout, "True True\n")
+
+    def test_a_paste_that_is_too_large_changes_nothing(self):
+        """Whichever of its allocations is refused, the session goes on as one that was never asked, and history has no group of it."""
+        units = 1 << (28 if os.environ.get("HUCKLEPORT_LARGE") == "1" else 24)
+        ran = subprocess.run([sys.executable, "-c", PASTE, str(units)], stdout=subprocess.PIPE, stderr=subprocess.STDOUT, universal_newlines=True)
+        self.assertEqual(ran.stdout, PASTED)
 
 
 if __name__ == "__main__":

@@ -320,7 +320,7 @@ class LongCalls(unittest.TestCase):
 
 @unittest.skipUnless(importlib.util.find_spec("_testcapi"), "there is no _testcapi, which makes Python run out of memory")
 class Memory(unittest.TestCase):
-    """Python runs out of memory, at each place in turn, while observers are notified or records are taken: no records are lost."""
+    """Python runs out of memory, at each place in turn or at all of them, while observers are notified or records are taken: no records are lost."""
 
     SOURCE = """
 import _testcapi, sys
@@ -369,7 +369,8 @@ def seen(start, stop, is_taking):
 lost, failed, last = [], 0, int(sys.argv[1])
 for is_taking in (False, True):
     for count in (1, 2, 3, 5, 10, 0):
-        for start in range(1, last):
+        # (from the first on all fail at once, if they fail for good)
+        for start in range(last):
             found, has_failed, is_over = seen(start, count and start + count, is_taking)
             failed += has_failed
             if found != [DUE] * 3 or not is_over:

@@ -146,6 +146,18 @@ class Members(unittest.TestCase):
         for name in ("a" + "b" * 1000, "\u00e9" * 300, "\u4e2d" * 300, "\U0001f600" * 300):
             self.assertEqual(self.document.create_element(name).tag_name, name)
 
+    def test_one_wide_unit(self):
+        """A unit of each width, at each place among letters."""
+        node = self.document.create_text_node("")
+        for length in [*range(1, 14), 256, 257, 259]:
+            for unit in ("\x7f", "\x80", "\xff", "\u0100", "\ud800", "\uffff"):
+                found = [("a" * it + unit).ljust(length, "b") for it in range(length)]
+                self.assertEqual([self.set_and_read(node, it) for it in found], found)
+
+    def set_and_read(self, node, text):
+        node.data = text
+        return node.data
+
     def test_words(self):
         """Members take words by name as before, and refuse others."""
         p = self.document.create_element(name="p")

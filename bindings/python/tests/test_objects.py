@@ -104,6 +104,17 @@ class Objects(unittest.TestCase):
             self.text.data
         self.assertEqual(repr(self.text), "<Text 2 no-such-object>")
 
+    def test_members_take_objects_of_their_family(self):
+        """A number that is a range's and a node's is not taken for the other's."""
+        found = self.document.create_range()
+        self.assertEqual(found.number, self.document.number)
+        for member, other in ((h.Node.first_child, found), (h.Element.tag_name, found)):
+            self.assertRaisesRegex(TypeError, "doesn't apply", member.__get__, other)
+        calls = (h.Node.append_child, found, self.text), (h.ChildNode.remove, found), (h.Range.select_node, self.document, self.text)
+        for member, *words in calls:
+            self.assertRaisesRegex(TypeError, "doesn't apply", member, *words)
+        self.assertEqual(h.Node.first_child.__get__(self.document), self.element)
+
     def test_ranges(self):
         with_ends = self.document.create_range()
         with_ends.set_start(self.text, 5)

@@ -35,6 +35,7 @@ function listening(child) {
 export class Browser {
   #next = 1;
   #waiting = new Map();
+  #isClosed = false;
 
   static async open({ width = 1200, height = 800, words: more = [] } = {}) {
     const it = new Browser();
@@ -43,6 +44,7 @@ export class Browser {
     it.child = spawn(chromium(), [...words, ...more, "about:blank"], { stdio: ["ignore", "ignore", "pipe"] });
     it.socket = new Socket(await listening(it.child));
     it.socket.addEventListener("message", ({ data }) => it.#take(JSON.parse(data)));
+    it.socket.addEventListener("close", () => it.#end());
     await new Promise((ready) => it.socket.addEventListener("open", ready));
     const { targetInfos } = await it.call("Target.getTargets");
     const { targetId } = targetInfos.find((target) => target.type === "page");
@@ -58,7 +60,14 @@ export class Browser {
     else tell?.(result);
   }
 
+  // Fails the calls that wait, and later ones, since nothing will answer them.
+  #end() {
+    this.#isClosed = true;
+    for (const { fail } of this.#waiting.values()) fail(new Error("the browser has closed its socket"));
+  }
+
   call(method, params = {}) {
+    if (this.#isClosed) return Promise.reject(new Error("the browser has closed its socket"));
     const id = this.#next++;
     this.socket.send(JSON.stringify({ id, method, params, sessionId: this.page }));
     return new Promise((tell, fail) => this.#waiting.set(id, { tell, fail }));
@@ -112,8 +121,8 @@ export class Browser {
 
   async close() {
     const ended = new Promise((ready) => this.child.once("exit", ready));
-    await this.call("Browser.close").catch(() => {});
-    await ended;
+    await this.call("Browser.close").catch(() => this.child.kill());
+    if (this.child.exitCode === null && this.child.signalCode === null) await ended;
     rmSync(this.folder, { recursive: true, force: true, maxRetries: 5 });
   }
 }

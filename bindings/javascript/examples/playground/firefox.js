@@ -34,6 +34,7 @@ function listening(child) {
 export class Firefox {
   #next = 1;
   #waiting = new Map();
+  #isClosed = false;
 
   static async open() {
     const it = new Firefox();
@@ -42,6 +43,7 @@ export class Firefox {
     it.child = spawn(firefox(), words, { stdio: ["ignore", "ignore", "pipe"], env: { ...process.env, HOME: it.folder } });
     it.socket = new Socket(await listening(it.child));
     it.socket.addEventListener("message", ({ data }) => it.#take(JSON.parse(data)));
+    it.socket.addEventListener("close", () => it.#end());
     await new Promise((ready) => it.socket.addEventListener("open", ready));
     await it.call("session.new", { capabilities: {} });
     const { contexts } = await it.call("browsingContext.getTree");
@@ -56,7 +58,14 @@ export class Firefox {
     else tell?.(result);
   }
 
+  // Fails the calls that wait, and later ones, since nothing will answer them.
+  #end() {
+    this.#isClosed = true;
+    for (const { fail } of this.#waiting.values()) fail(new Error("the browser has closed its socket"));
+  }
+
   call(method, params = {}) {
+    if (this.#isClosed) return Promise.reject(new Error("the browser has closed its socket"));
     const id = this.#next++;
     this.socket.send(JSON.stringify({ id, method, params }));
     return new Promise((tell, fail) => this.#waiting.set(id, { tell, fail }));
@@ -86,8 +95,8 @@ export class Firefox {
 
   async close() {
     const ended = new Promise((ready) => this.child.once("exit", ready));
-    await this.call("browser.close").catch(() => {});
-    await ended;
+    await this.call("browser.close").catch(() => this.child.kill());
+    if (this.child.exitCode === null && this.child.signalCode === null) await ended;
     rmSync(this.folder, { recursive: true, force: true, maxRetries: 5 });
   }
 }

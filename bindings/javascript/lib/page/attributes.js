@@ -4,6 +4,7 @@
  */
 import {
   adoptNode,
+  ATTRIBUTE,
   attributeNames,
   attributesKept,
   converted,
@@ -105,12 +106,13 @@ function byNamespace(element, namespace, local) {
   return attributeNames(element).find((name) => name.namespace === its && name.local === local);
 }
 
-/** The node of the core that is in an Attr's place in ranges and for observers: a comment, which is as long, has no parent, and takes no children. */
+/** The node of the core that is in an Attr's place in ranges, in traversals and for observers: a comment, which has no parent and takes no children. */
 function standInOf(attr) {
   const its = attrOf(attr);
   if (its.standIn === null) {
     its.standIn = createComment(its.element ? documentOf(its.element) : its.document, "");
     keptOf(its.standIn).standsFor = attr;
+    itsOf(its.standIn).kind = ATTRIBUTE;
   }
   return its.standIn;
 }

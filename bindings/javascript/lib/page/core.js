@@ -6,7 +6,7 @@ import { Refusal } from "../core.js";
 import { documentIs, isNode, kindOf, numberOf, realmOf, sessionOf } from "../wrappers.js";
 
 export { attributesKept, hasWord, isBlank, namesKept, valueKept, wordsKept } from "../attributes.js";
-export { DOCUMENT, ELEMENT, TEXT } from "../core.js";
+export { ATTRIBUTE, DOCUMENT, ELEMENT, TEXT } from "../core.js";
 export {
   Element,
   getElementsByClassName as elementsOfClass,
@@ -23,7 +23,7 @@ export { adoptNode, contentsOf, createComment, dataOf, documentOf, emptyContents
 export { onlyBelow } from "../ids.js";
 export { htmlCollection, numbersIn, stillNodeList } from "../lists.js";
 export { serializeInner } from "../serializing.js";
-export { addMembers, convertible, converted, known, makeInterface, otherNodes, refuseOther, refuseType } from "../webidl.js";
+export { addMembers, convertible, converted, guardTraps, known, makeInterface, otherNodes, refuseOther, refuseType } from "../webidl.js";
 export { isNode, isThing, itsOf, keptOf, kindOf, makeThing, numberOf, realmOf, rootOf, sessionOf, stateOf, Thing, thingOf, wrap, Wrapper } from "../wrappers.js";
 
 /** The standard's codes of the exceptions that the page throws. */

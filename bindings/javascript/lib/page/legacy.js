@@ -1,4 +1,5 @@
 /** Objects whose properties are indices and names (Web IDL's legacy platform objects). Each access is delegated to their state. */
+import { guardTraps } from "./core.js";
 
 const PAST = 4294967295;
 
@@ -16,12 +17,15 @@ function indexOf(key) {
  * - `length` and `at(index)` if the object has indices;
  * - `names()` and `named(name)` if it has names, and `setNamed` and `deleteNamed` if these can be written;
  * - `isOverriding` if its names take precedence over the members of the interface.
+ *
+ * The realm is that of the exceptions.
  */
 export class Traps {
   #its;
 
-  constructor(its) {
+  constructor(its, realm = null) {
     this.#its = its;
+    this.realm = realm;
   }
 
   #visible(target, key) {
@@ -95,6 +99,8 @@ export class Traps {
   }
 }
 
+guardTraps(Traps);
+
 const known = new WeakMap();
 
 /** Returns the state of such an object if it is of a class. */
@@ -105,7 +111,7 @@ export function knownOf(it, Kind) {
 
 /** Makes an object of an interface of a realm, with a state. */
 export function makeLegacy(realm, name, its) {
-  const made = new Proxy(Object.create(realm.interfaces[name].prototype), new Traps(its));
+  const made = new Proxy(Object.create(realm.interfaces[name].prototype), new Traps(its, realm));
   known.set(made, its);
   return made;
 }

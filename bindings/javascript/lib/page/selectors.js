@@ -1,4 +1,4 @@
-/** Selectors: what a text means, by selectors/parsing.js and selectors/matching.js, and where elements that fit are looked for. */
+/** Selectors: a text is read by selectors/reading.js and compiled by selectors/rules.js; here elements that fit are looked for. */
 import {
   after,
   DOCUMENT,

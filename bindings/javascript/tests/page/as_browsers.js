@@ -88,6 +88,59 @@ const nodes = {
       0,
     ],
   ],
+  "an Attr is the root of an iterator, and is gone through alone": [
+    ({ document, NodeFilter }) => {
+      const element = document.body.appendChild(document.createElement("p"));
+      element.title = "x";
+      const attr = element.getAttributeNode("title");
+      const seen = [];
+      const filter = (node) => {
+        seen.push(node === attr);
+        return NodeFilter.FILTER_SKIP;
+      };
+      const over = (...given) => document.createNodeIterator(attr, ...given);
+      const { SHOW_ALL, SHOW_ATTRIBUTE, SHOW_COMMENT, SHOW_ELEMENT } = NodeFilter;
+      const said = [over(), over(SHOW_ATTRIBUTE), over(SHOW_ELEMENT | SHOW_COMMENT), over(SHOW_ALL, filter)].map((it) => {
+        const ahead = () => [it.referenceNode === attr, it.pointerBeforeReferenceNode];
+        const steps = ["nextNode", "nextNode", "previousNode", "previousNode"].map((step) => {
+          const found = it[step]();
+          document.body.append(step);
+          return [found === attr, found, ...ahead()].filter((its) => its !== attr);
+        });
+        return [it.root === attr, ...steps];
+      });
+      return [said, seen];
+    },
+    [
+      [
+        [true, [true, true, false], [false, null, true, false], [true, true, true], [false, null, true, true]],
+        [true, [true, true, false], [false, null, true, false], [true, true, true], [false, null, true, true]],
+        [true, [false, null, true, true], [false, null, true, true], [false, null, true, true], [false, null, true, true]],
+        [true, [false, null, true, true], [false, null, true, true], [false, null, true, true], [false, null, true, true]],
+      ],
+      [true, true],
+    ],
+  ],
+  "a walker has an Attr as its root, or comes to it by its current node": [
+    ({ document }) => {
+      const element = document.body.appendChild(document.createElement("p"));
+      element.title = "x";
+      const attr = element.getAttributeNode("title");
+      const walkers = [document.createTreeWalker(attr), document.createTreeWalker(document.body)];
+      walkers[1].currentNode = attr;
+      const moves = ["parentNode", "firstChild", "lastChild", "previousSibling", "nextSibling", "previousNode", "nextNode"];
+      const said = walkers.map((it) => [moves.map((move) => it[move]()), it.root === attr, it.currentNode === attr]);
+      walkers[0].currentNode = document.body;
+      return [said, walkers[0].nextNode() === element];
+    },
+    [
+      [
+        [[null, null, null, null, null, null, null], true, true],
+        [[null, null, null, null, null, null, null], false, true],
+      ],
+      true,
+    ],
+  ],
   "names of controls are names of their form": [
     ({ document }) => {
       document.body.innerHTML = "<form><input name=a><input id=b><button name=c></button><input name=title></form><input name=d>";

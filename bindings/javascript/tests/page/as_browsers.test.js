@@ -5,6 +5,7 @@ import test from "node:test";
 
 import { missing } from "../../examples/playground/browser.js";
 import { createPage } from "../../lib/page/index.js";
+import { sessionOf } from "../../lib/wrappers.js";
 import { ANSWERS, caught } from "./as_browsers.js";
 import { inChromium, NEEDED, skipWithout, WINDOWS } from "./players.js";
 
@@ -43,6 +44,17 @@ test("faults in a context are of its own realm", { skip }, () => {
   assert.equal(isOwn('document.body.classList.supports("x")'), true);
   assert.equal(isOwn("const { proxy, revoke } = Proxy.revocable({}, {}); revoke(); document.createTreeWalker(document, 1, proxy).firstChild();"), true);
   assert.equal(isOwn("const { proxy, revoke } = Proxy.revocable(() => 1, {}); revoke(); document.createNodeIterator(document, 1, proxy).nextNode();"), true);
+});
+
+test("views of an element refuse by exceptions of their realm once the session is closed", { skip }, () => {
+  const { document, DOMException } = createPage("<form><input name=a></form>", { global: createContext({}) });
+  const [form] = document.forms;
+  const { dataset } = form;
+  sessionOf(document).close();
+  const isOwn = (fault) => fault instanceof DOMException && fault.name === "InvalidStateError";
+  assert.throws(() => void (dataset.a = "b"), isOwn);
+  assert.throws(() => form.a, isOwn);
+  assert.throws(() => Object.keys(form), isOwn);
 });
 
 test("an Attr has no XML, as DOM Parsing and Serialization says", { skip }, async () => {

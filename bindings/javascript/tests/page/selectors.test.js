@@ -6,7 +6,7 @@ import test from "node:test";
 import { setImmediate as turn } from "node:timers/promises";
 
 import { createPage } from "../../lib/page/index.js";
-import { NEEDED, skipWithout } from "./players.js";
+import { installed, NEEDED, skipWithout } from "./players.js";
 
 const skip = skipWithout(...NEEDED);
 const PAGE = fileURLToPath(new URL("../../lib/page/index.js", import.meta.url));
@@ -63,6 +63,14 @@ test("names, ids and classes need no library; another selector names the package
     }`;
   const ran = spawnSync(process.execPath, ["--input-type=module", "-e", program], { encoding: "utf8" });
   assert.equal(`${ran.stdout}${ran.stderr}`, "2 1 false\n2 1 false\n2 1 false\n1 1 true\nNotSupportedError npm install css-what\n");
+});
+
+test("another library finds elements over a page, by its own tests of features", { skip: skip || skipWithout("nwsapi") }, () => {
+  const { document, DOMException } = createPage("<p id=a>1</p><b class='c d'>2</b><ul><li>3</li><li>4</li></ul>");
+  const finder = installed("nwsapi")({ document, DOMException });
+  const found = (text) => finder.select(text, document).map((it) => it.textContent).join();
+  assert.deepEqual(["#a", "b.c", "ul > li:nth-child(2)", "li", "p, b"].map(found), ["1", "2", "4", "3,4", "1,2"]);
+  assert.equal(finder.match("b.d", document.querySelector("b")), true);
 });
 
 test("a selector that nests deeply, and one of many parts", { skip }, () => {

@@ -109,6 +109,17 @@ def walk(page: h.Document, out: Out) -> None:
     out(text(one), text(other), [kinds[type(it).__name__] for it in lead])
 
 
+def collect(page: h.Document, out: Out) -> None:
+    """A table becomes dicts, and links are shown with all that they have."""
+    table = first(page, "table")
+    names = [text(it).lower() for it in table.iter("th")]
+    for row in list(table.iter("tr"))[1:]:
+        out(dict(zip(names, map(text, row.iter("td")))))
+    for link in page.select("a[title]"):
+        link.set_attribute("href", attribute(link, "href").replace("example.org", "example.com"))
+        out(dict(link.attributes))
+
+
 def change(page: h.Document, out: Out) -> None:
     """Elements and texts come, go and move."""
     item = first(page, "li.fruit")
@@ -185,6 +196,7 @@ def main(out: Out) -> None:
     page = read(out)
     search(page, out)
     walk(page, out)
+    collect(page, out)
     change(page, out)
     write(page, out)
     make(out)

@@ -67,6 +67,17 @@ def walk(soup, out):
     out(first.string, first.find_next("b").string, [type(it).__name__ for it in soup.p.contents])
 
 
+def collect(soup, out):
+    """A table becomes dicts, and links are shown with all that they have."""
+    table = soup.find("table")
+    names = [it.get_text().lower() for it in table.find_all("th")]
+    for row in table.find_all("tr")[1:]:
+        out(dict(zip(names, (it.get_text() for it in row.find_all("td")))))
+    for link in soup.find_all("a", title=True):
+        link["href"] = link["href"].replace("example.org", "example.com")
+        out(link.attrs)
+
+
 def change(soup, out):
     """Elements and texts come, go and move."""
     item = soup.select_one("li.fruit")
@@ -131,6 +142,7 @@ def main(out):
     soup = read(out)
     search(soup, out)
     walk(soup, out)
+    collect(soup, out)
     change(soup, out)
     write(soup, out)
     make(out)

@@ -120,6 +120,17 @@ def change(tree: h.Document, out: Out) -> None:
     out(one.child_element_count, one.select_one(":scope > author") is not None)
 
 
+def sort(root: h.Element, out: Out) -> None:
+    """Elements are put in the order of an attribute."""
+    books = sorted(root.select(":scope > book"), key=lambda it: int(it.attributes["year"]))
+    root.append(*books)
+    out([it.get_attribute("year") for it in root.select(":scope > book")])
+    books[0].attributes.update({"oldest": "yes", "year": "about 1949"})
+    out(h.xml.tostring(books[0]))
+    above = books[-1].parent_element
+    out([it.get_attribute("id") for it in books[0].next_siblings() if isinstance(it, h.Element)], [above and above.tag_name])
+
+
 def copies(root: h.Element, out: Out) -> None:
     """A copy is a tree of its own."""
     copied = root.clone_node(True)
@@ -165,6 +176,7 @@ def main(out: Out) -> None:
     out([it.tag_name if isinstance(it, h.Element) else "comment" for it in root if not isinstance(it, h.Text)], repr(root.children[0].tail))
     copies(root, out)
     write(root, out)
+    sort(root, out)
     feed(out)
     faults(out)
 

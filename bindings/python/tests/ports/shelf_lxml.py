@@ -90,6 +90,17 @@ def change(tree, out):
     out(len(first), first.find("author") is not None)
 
 
+def sort(root, out):
+    """Elements are put in the order of an attribute."""
+    books = sorted(root.findall("book"), key=lambda it: int(it.get("year")))
+    for book in books:
+        root.append(book)
+    out([it.get("year") for it in root.findall("book")])
+    books[0].attrib.update({"oldest": "yes", "year": "about 1949"})
+    out(etree.tostring(books[0], encoding="unicode"))
+    out([it.get("id") for it in books[0].itersiblings()], [it.tag for it in books[-1].iterancestors()])
+
+
 def copies(root, out):
     """A copy is a tree of its own."""
     copied = etree.fromstring(etree.tostring(root))
@@ -135,6 +146,7 @@ def main(out):
     out([it.tag if isinstance(it.tag, str) else "comment" for it in root], repr(root[0].tail))
     copies(root, out)
     write(root, out)
+    sort(root, out)
     feed(out)
     faults(out)
 

@@ -1,5 +1,5 @@
 /** Controls as properties of their form, by index, id and name (HTML Standard, section 4.10.3), as far as a form has no member of the name. */
-import { Wrapper } from "../core.js";
+import { realmOf, Wrapper } from "../core.js";
 import { Traps } from "../legacy.js";
 
 class ControlsAre {
@@ -24,9 +24,11 @@ class ControlsAre {
 
 /** The object of a form. */
 export class FormWrapper extends Wrapper {
-  constructor(its) {
+  constructor() {
     const controls = new ControlsAre();
-    super(its, new Proxy(Object.create(new.target.prototype), new Traps(controls)));
+    const traps = new Traps(controls);
+    super(new Proxy(Object.create(new.target.prototype), traps));
     controls.form = this;
+    traps.realm = realmOf(this);
   }
 }
