@@ -34,7 +34,8 @@ pub mod QueueListLemmas
 pub mod QueueRecordLemmas
 pub mod QueueCountLemmas
 pub mod NoneInterestedLemmas
-pub mod IsFrontLemmas
+pub mod GetsTransientsLemmas
+pub mod OneGoneLemmas
 pub mod RegistrationCountLemmas
 pub mod AreRegisteredLemmas
 pub mod ReleaseLemmas

@@ -1,4 +1,5 @@
 pub mod Borrows
+pub mod GetsTransients
 pub mod Interested
 pub mod Invariant
 pub mod Keys
@@ -6,7 +7,6 @@ pub mod Names
 pub mod Notification
 pub mod ObservedNodes
 pub mod Origins
-pub mod OutOfMemory
 pub mod Queued
 pub mod QueuedNodes
 pub mod Registrations

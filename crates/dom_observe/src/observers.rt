@@ -11,7 +11,6 @@ ghost use Rattle.dom_observe.specs.ObservedNodes.{referred_nodes, nodes_of_mutat
 ghost use Rattle.std.specs.List.{list_any};
 ghost use Rattle.dom_observe.specs.Notification.{waiting_in, IsNotified};
 ghost use Rattle.dom_observe.specs.WithoutRepeats.{once};
-ghost use Rattle.dom_observe.specs.OutOfMemory.{IsPartlyLeft, IsPartlyRemoved};
 ghost use Rattle.dom_observe.specs.Removal.{removed_below};
 ghost use Rattle.dom_observe.specs.Sound.{AreSoundWatchers};
 ghost use Rattle.dom_observe.specs.Watchers.{queue_in, records_at, registrations_in, Watches, StepsObserving, AnswersQuestion};
@@ -27,7 +26,9 @@ use crate::record::{Mutation, Notification, Record};
 use crate::registration::{EndedRegistrations, Ending, Lifetime, Registration};
 use crate::registrations::Registrations;
 use crate::roster::Roster;
-use crate::transient_registrations::{add_transients, find_standing, find_standing_deep};
+use crate::transient_registrations::{
+    add_transients, end_added, find_standing, find_standing_deep,
+};
 use dom_tree::{NodeId, Tree};
 use indexmap::IndexSet;
 use std::alloc::{AllocError, Global};
@@ -267,8 +268,8 @@ impl Observers {
 
     /// Adds transient registrations to a node that is removed from its parent, for those with subtree at the parent's inclusive ancestors ("remove").
     ///
-    /// None is added that equals another of the node. After an error some may be missing; if no observer is registered at those ancestors, nothing
-    /// has changed.
+    /// None is added that equals another of the node. After an error the observers have the registrations that they had; if no observer is registered
+    /// at those ancestors, nothing has changed.
     pub fn transients<X>(
         &mut self,
         tree: &Tree<X>,
@@ -278,7 +279,7 @@ impl Observers {
         requires { HasNode tree.now.forest parent }
         ensures left { OnOk result ((x : Observing) → Watches self.old x →
             Watches self.new (with_transients node (ancestors parent tree.now.forest) x)) }
-        ensures partly { OnErr result (IsPartlyLeft node self.old self.new) }
+        ensures err { OnErr result (StepsObserving (λ x. x) self.old self.new) }
         ensures names { NamesOnly (node ∷ []) self.old self.new }
         ensures made { SameObservers self.old self.new }
         ensures quiet { NamesNoneOf (ancestors parent tree.now.forest) self.old →
@@ -338,8 +339,8 @@ impl Observers {
     /// Adds transient registrations to a node that was removed from its parent, and then queues a record for each interested observer: `transients`
     /// and then `queue_record`, with one climb from the parent, which is the mutation's target.
     ///
-    /// Call it after the removal. After an error some transient registrations or records may be missing; if no observer is registered at the parent's
-    /// inclusive ancestors, nothing has changed.
+    /// Call it after the removal. After an error the observers have the registrations and records that they had; if no observer is registered at the
+    /// parent's inclusive ancestors, nothing has changed.
     pub fn removed<X>(
         &mut self,
         tree: &Tree<X>,
@@ -351,7 +352,7 @@ impl Observers {
         ensures removed { OnOk result (StepsObserving
             (removed_below node (ancestors mutation.now.target tree.now.forest) mutation.now)
             self.old self.new) }
-        ensures partly { OnErr result (IsPartlyRemoved node mutation.now self.old self.new) }
+        ensures err { OnErr result (StepsObserving (λ x. x) self.old self.new) }
         ensures names { NamesOnly (node ∷ nodes_of_mutation mutation.now) self.old self.new }
         ensures made { SameObservers self.old self.new }
         ensures quiet { NamesNoneOf (ancestors mutation.now.target tree.now.forest) self.old →
@@ -365,6 +366,7 @@ impl Observers {
         if self.standing.is_empty() {
             return Ok(());
         }
+        let count = self.registrations.keys_on(node).len();
         add_transients(
             &mut self.registrations,
             &mut self.roster,
@@ -373,14 +375,18 @@ impl Observers {
             node,
             self.alloc,
         )?;
-        queue_for_interested(
+        if let Err(error) = queue_for_interested(
             &self.registrations,
             self.standing.as_slice(),
             &mut self.roster,
             &mut self.pending,
             mutation,
             self.alloc,
-        )
+        ) {
+            end_added(&mut self.registrations, &mut self.roster, node, count);
+            return Err(error);
+        }
+        Ok(())
     }
 
     /// Returns the records of the pending observers, and ends every transient registration ("notify mutation observers").

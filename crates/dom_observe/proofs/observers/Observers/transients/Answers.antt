@@ -5,7 +5,7 @@ use Rattle.std.proofs.lemmas.Bool.{true≢false, or_parts}
 use Rattle.dom_model.proofs.PlainLists.Numbers.{same_or, same, apart}
 use Rattle.dom_model.specs.Definitions.{ancestors, registered_on, with_transients}
 use Rattle.dom_observe.specs.{WithoutRepeats.once, Watchers.Watchers, Watchers.Watches, Watchers.on, Registrations.at, Registrations.found, Registrations.is_live, Registrations.AllLive, Registrations.HasRegistration, Invariant.registered_nodes, Invariant.has_queue, Invariant.HoldsInvariant, Invariant.IsAwaited, Roster.lasting_by, Roster.passing_by, Roster.queues_by, QueuedNodes.names_one, QueuedNodes.RecordsNameNone}
-use Rattle.dom_observe.proofs.{NamedNodesLemmas.names-only, NamedNodesLemmas.same-queues, ObserverKeysLemmas.indexed-by, ResultLemmas.on_ok, ResultLemmas.at_err, IsFrontLemmas.left-same, IsFrontLemmas.partly-left, RegistrationTableLemmas.live_of_stands, InvariantLemmas.on-registered_nodes, InvariantLemmas.kept-others, InvariantLemmas.all_deep, InvariantLemmas.stands_of, TransientLemmas.transients-once, TransientLemmas.none-added-there, WatchesLemmas.watches-transients, NoneInterestedLemmas.not_nothing, NoneInterestedLemmas.none-deep}
+use Rattle.dom_observe.proofs.{NamedNodesLemmas.names-only, NamedNodesLemmas.same-queues, ObserverKeysLemmas.indexed-by, ResultLemmas.on_ok, ResultLemmas.on_err, ResultLemmas.at_err, RegistrationTableLemmas.live_of_stands, InvariantLemmas.on-registered_nodes, InvariantLemmas.kept-others, InvariantLemmas.all_deep, InvariantLemmas.stands_of, TransientLemmas.transients-once, TransientLemmas.none-added-there, WatchesLemmas.watches-transients, GetsTransientsLemmas.watches-alike, NoneInterestedLemmas.not_nothing, NoneInterestedLemmas.none-deep}
 use Rattle.dom_observe.proofs.observers.Observers.transients.Goals as goal
 
 none : {A : Type 0} (xs : List A) → length xs ≡ 0 → xs ≡ []
@@ -126,14 +126,18 @@ returns-then-is_empty-clause-quiet g c unnamed = c.self.view_is
 pub returns-in_err-find_standing_deep-clause-quiet : goal.returns-in_err-find_standing_deep-clause-quiet
 returns-in_err-find_standing_deep-clause-quiet g c unnamed = c.self.view_is
 
-pub returns-in_err-find_standing_deep-clause-partly : goal.returns-in_err-find_standing_deep-clause-partly
-returns-in_err-find_standing_deep-clause-partly g c = at_err c.from_residual.result (left-same c.args.self.now _ c.self.view_is c.args.node)
+pub add_transients-requires-clause-stand : goal.add_transients-requires-clause-stand
+add_transients-requires-clause-stand g c = c.self.invariant.0.stand
 
-pub returns-clause-partly : goal.returns-clause-partly
-returns-clause-partly g c =
+pub returns-in_err-find_standing_deep-clause-err : goal.returns-in_err-find_standing_deep-clause-err
+returns-in_err-find_standing_deep-clause-err g c = at_err c.from_residual.result (λ x w. subst (λ (o : Watchers). Watches o x) (sym c.self.view_is) w)
+
+pub returns-clause-err : goal.returns-clause-err
+returns-clause-err g c =
+    on_err c.add_transients.result c.add_transients.ensures.err (λ same_nodes x w.
     let a = c.self.inside in
     let b = c.add_transients.new in
-    let left =
-    partly-left a.registrations (queues_by a.roster) a.pending.keys c.args.self.now c.self.view_is b.registrations c.args.node
-    c.add_transients.ensures.front c.add_transients.ensures.elsewhere (queues_by b.roster) c.add_transients.ensures.queues in
-    at_err c.add_transients.result left
+    let o : Watchers = record { nodes = registered_nodes a.registrations; queues = queues_by a.roster; pending = a.pending.keys } in
+    let shown = subst (λ (o : Watchers). Watches o x) (sym c.self.view_is) w in
+    subst (λ q. Watches (record { nodes = registered_nodes b.registrations; queues = q; pending = a.pending.keys }) x) (sym c.add_transients.ensures.queues)
+    (watches-alike o x shown (registered_nodes b.registrations) (λ n. on-registered_nodes b.registrations n ∙ same_nodes n ∙ sym (on-registered_nodes a.registrations n))))

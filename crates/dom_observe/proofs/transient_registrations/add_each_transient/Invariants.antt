@@ -2,7 +2,7 @@
 use Rattle.std.proofs.Common.{◌≡◌, ℕ, Bool, List, take, false}
 use Rattle.std.specs.List.{AllByRecursion}
 use Rattle.dom_observe.specs.{Watchers.on, Invariant.AreRegistered, Invariant.IsIndexed, Roster.lasting_by, Roster.passing_by, Roster.queues_by, QueuedNodes.names_one, QueuedNodes.NamesNone, Origins.NotesIfAny, Registrations.at, Registrations.found, Registrations.HasRegistration, Registrations.AllStand, Registrations.HaveSources, Registrations.Agree, Registrations.with_added_transients}
-use Rattle.dom_observe.proofs.transient_registrations.add_transients.Given as goal
+use Rattle.dom_observe.proofs.transient_registrations.add_each_transient.Given as goal
 
 abbrev pub invariant-loop-key : goal.invariant-loop-key
 invariant-loop-key l = record {
