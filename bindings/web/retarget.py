@@ -14,7 +14,7 @@ KNOWN_TRIPLE = "x86_64-unknown-linux-gnu"
 PROCESSOR = r' "(?:probe-stack|stack-probe-size|stack-protector-buffer-size|target-cpu|target-features|tune-cpu|frame-pointer)"="[^"]*"'
 SHUFFLE = "llvm.x86.ssse3.pshuf.b.128"
 # The function that hands each command to the part that answers it.
-ANSWERING = '"dom_session::answering::answered"'
+ANSWERING = '"dom_session::dispatch::answered"'
 
 
 def refuse(what):

@@ -1,12 +1,12 @@
 /* Sessions that go on after an allocation was refused. Each allocation of each question, of each call that makes an object and of a notification is
  * refused in turn, over a document of some hundred nodes. The call then says that it was refused memory, and its out pointers are as they were. After
  * that the session answers two hundred further lines as one that was never asked. The same holds of a paste into an observed text, if its data cannot
- * grow. Linked with --wrap for malloc, realloc and free. */
+ * grow, and of each edit in a session that nobody observes. Linked with --wrap for malloc, realloc and free. */
 #include "refusing.h"
 #include "wanting.h"
 #include <string.h>
 
-enum { PARAGRAPHS = 100, LINES = 200, NONE = 7, TEXT = 3, PASTE = 1 << 20, ROOM = 1 << 20 };
+enum { PARAGRAPHS = 100, LINES = 200, NONE = 7, TEXT = 3, APART = 2 + 2 * PARAGRAPHS, FRAGMENT, PASTE = 1 << 20, ROOM = 1 << 20 };
 
 struct said {
     size_t length;
@@ -16,7 +16,8 @@ struct said {
 static struct said due, got;
 
 /* An article with paragraphs, each of them with a text and an attribute, and one object of each other kind. */
-static void build(void)
+/* Builds the session; observer 0 observes the document, or nothing. */
+static void build_for(bool is_observed)
 {
     hp_options options = HP_OPTIONS_INIT;
     uint32_t made = 0, paragraph;
@@ -33,9 +34,19 @@ static void build(void)
     said |= hp_create_static_range(&session, 1, 0, 1, 5, &made);
     said |= hp_create_iterator(&session, 1, HP_NONE, NULL, 0, NULL, 0, NULL, 0, &made) | hp_next_node(&session, 0, &made);
     said |= hp_create_walker(&session, 1, HP_NONE, NULL, 0, NULL, 0, NULL, 0, &made);
-    said |= hp_create_observer(&session, &made) | hp_observe(&session, 0, 0, &options, NULL, 0, NULL, 0);
+    said |= hp_create_observer(&session, &made);
+    if (is_observed)
+        said |= hp_observe(&session, 0, 0, &options, NULL, 0, NULL, 0);
     said |= hp_set_attribute(&session, 1, hp_name("class"), hp_text_literal("first"));
+    said |= hp_create_element(&session, 0, hp_name("apart"), &made) | hp_create_fragment(&session, 0, &made);
+    WANT(said == HP_OK && made == FRAGMENT);
+    said |= hp_create_text(&session, 0, hp_text_literal("in a fragment"), &made) | hp_append_child(&session, FRAGMENT, made);
     WANT(said == HP_OK);
+}
+
+static void build(void)
+{
+    build_for(true);
 }
 
 /* Says a line, and notes its reply. */
@@ -121,19 +132,54 @@ static uint8_t make(int number, uint32_t *made)
     }
 }
 
+/* The edits, of nodes whose session nobody observes. */
+enum { EDITS = 18 };
+
+static uint8_t edit_tree(int number)
+{
+    switch (number) {
+    case 0: return hp_append_child(&session, 1, APART);
+    case 1: return hp_append_child(&session, APART, 4);
+    case 2: return hp_insert_before(&session, 1, APART, 100);
+    case 3: return hp_insert_before(&session, 1, 6, 100);
+    case 4: return hp_append_child(&session, 1, FRAGMENT);
+    case 5: return hp_remove(&session, 6);
+    case 6: return hp_remove_child(&session, 1, 6);
+    case 7: return hp_replace_child(&session, 1, APART, 6);
+    case 8: return hp_replace_child(&session, 1, FRAGMENT, 6);
+    case 9: return hp_replace_children(&session, 1, FRAGMENT);
+    default: return hp_adopt_node(&session, 0, 6);
+    }
+}
+
+static uint8_t edit(int number)
+{
+    uint8_t is_there;
+    switch (number) {
+    case 11: return hp_set_data(&session, TEXT, hp_text_literal("a text that is longer than the one that was there before it"));
+    case 12: return hp_append_data(&session, TEXT, hp_text_literal(", and more of it than there was room for"));
+    case 13: return hp_insert_data(&session, TEXT, 4, hp_text_literal(", and more of it than there was room for"));
+    case 14: return hp_replace_data(&session, TEXT, 4, 2, hp_text_literal(", and more of it than there was room for"));
+    case 15: return hp_set_attribute(&session, 2, hp_name("title"), hp_text_literal("long"));
+    case 16: return hp_set_attribute(&session, 2, hp_name("language"), hp_text_literal("another"));
+    case 17: return hp_toggle_attribute(&session, 2, hp_name("hidden"), 2, &is_there);
+    default: return edit_tree(number);
+    }
+}
+
 static uint8_t call(int number, uint32_t *made)
 {
     return number < QUESTIONS ? ask(number) : make(number - QUESTIONS, made);
 }
 
-/* One call with one allocation refused: whether the refusal was met. */
-static bool once(int number, unsigned long at, unsigned long *refusals)
+/* One call, or one edit that nobody observes, with one allocation refused: whether the refusal was met. */
+static bool once(int number, bool is_edit, unsigned long at, unsigned long *refusals)
 {
     uint32_t made = NONE;
     hp_counts in_use_now;
-    build();
+    build_for(!is_edit);
     refuse(at);
-    uint8_t status = call(number, &made);
+    uint8_t status = is_edit ? edit(number) : call(number, &made);
     bool was_met = asked >= at;
     counts = false;
     WANT(status != HP_ENDED && (status == HP_OUT_OF_MEMORY ? was_met : true));
@@ -210,19 +256,26 @@ static void paste(void)
     WANT(hp_close(&session) == HP_OK);
 }
 
+/* All calls of a kind, each with each of its allocations refused. */
+static void each(int calls, bool is_edit, unsigned long *refusals)
+{
+    build_for(!is_edit);
+    further(&due);
+    WANT(hp_close(&session) == HP_OK);
+    for (int number = 0; number < calls; number++) {
+        for (unsigned long at = 1; once(number, is_edit, at, refusals) && !faults; at++)
+            continue;
+        if (faults)
+            printf("in %s %d\n", is_edit ? "edit" : "call", number);
+    }
+}
+
 int main(void)
 {
     unsigned long refusals = 0;
-    build();
-    further(&due);
-    WANT(hp_close(&session) == HP_OK);
-    for (int number = 0; number < CALLS; number++) {
-        for (unsigned long at = 1; once(number, at, &refusals) && !faults; at++)
-            continue;
-        if (faults)
-            printf("in call %d\n", number);
-    }
+    each(CALLS, false, &refusals);
+    each(EDITS, true, &refusals);
     paste();
-    printf("%d calls, %lu refusals after which a session went on\n", CALLS, refusals);
+    printf("%d calls and edits, %lu refusals after which a session went on\n", CALLS + EDITS, refusals);
     return faults || refusals < CALLS;
 }

@@ -129,6 +129,15 @@ static void all(void)
     refused(0, 0, 2, HP_BAD_LENGTHS);
 }
 
+/* Observes all data in the document, so that an edit of data ends the session if it is refused memory. */
+static void observe(void)
+{
+    hp_options options = HP_OPTIONS_INIT;
+    uint32_t observer;
+    options.subtree = options.character_data = 1;
+    WANT(hp_create_observer(&session, &observer) == HP_OK && hp_observe(&session, observer, 0, &options, NULL, 0, NULL, 0) == HP_OK);
+}
+
 int main(void)
 {
     static const uint16_t units[64];
@@ -140,6 +149,7 @@ int main(void)
     counts = false;
     WANT(asked == 0);
     WANT(hp_count(&session, &told) == HP_OK && told == 2);
+    observe();
     /* (the first allocation is for the copied text) */
     do
         refuse(2);

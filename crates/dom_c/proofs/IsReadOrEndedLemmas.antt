@@ -4,7 +4,7 @@ use Rattle.dom_model.specs.declared.OwnError.{OwnError}
 use Rattle.dom_model.specs.Definitions.{Entry, children_in, Node, Forest, entry_in, children_of, Content, World}
 use Rattle.dom_session.specs.Neighbours.{read_where, child_count_in, laid_over}
 use Rattle.dom_session.proofs.LaidOverLemmas.{laid_over-absent}
-use Rattle.dom_wire.specs.Sessions.{StandsFor, held_world}
+use Rattle.dom_session.specs.Sessions.{StandsFor, held_world}
 use Rattle.dom_c.specs.{Statuses.status_of_own, Neighbours.IsReadOrEnded, Neighbours.ReadsKept, Neighbours.children_over, Neighbours.out_as, Neighbours.written, Neighbours.status_of_read, Neighbours.status_of_read_at_end, declared.handle_state.HandleState.HandleState}
 
 -- a refusal in each world that the session stands for, and in the one that it holds

@@ -3,9 +3,9 @@ use Rattle.std.proofs.Common.{◌≡◌, ◌∙◌, ℕ, Bool, true, false, List
 use Rattle.std.proofs.lemmas.Bool.{false≢true}
 use Rattle.dom_model.specs.Definitions.{Command, World}
 use Rattle.dom_model.specs.Commands.Reply.{is_refusal}
-use Rattle.dom_session.specs.declared.reply.Reply.{Reply}
+use Rattle.dom_commands.specs.declared.reply.Reply.{Reply}
 use Rattle.dom_session.specs.SessionViews.{IsAnswered}
-use Rattle.dom_wire.specs.Sessions.{SessionView, StandsFor, IsAsBefore, reply_view}
+use Rattle.dom_session.specs.Sessions.{SessionView, StandsFor, IsAsBefore, reply_view}
 use Rattle.dom_c.specs.{Answers.Ends, Answers.StepsState, Answers.leaves_open, Answers.step_for, Answers.with_reply, Answers.at_end, Lines.TakesLine, Lines.step_for_line, Statuses.status_of, Statuses.out_of_memory, declared.handle_state.HandleState.HandleState}
 
 -- a session that is as before is open if it was open
@@ -76,7 +76,7 @@ steps-spared c k s on kept bounds = record {
 }
 
 -- a session that has ended, which a command that leaves it open does only if it had ended before
-pub steps-ended : (c : Result Command ℕ) (k : HandleState) (s : SessionView) → s.bounds ≡ k.session.bounds → (leaves_open c ≡ true → k.session.ended ≡ false → true ≡ k.ended) → StepsState c k (at_end (with_session k s)) out_of_memory
+pub steps-ended : (c : Result Command ℕ) (k : HandleState) (s : SessionView) → s.bounds ≡ k.session.bounds → (leaves_open k.session c ≡ true → k.session.ended ≡ false → true ≡ k.ended) → StepsState c k (at_end (with_session k s)) out_of_memory
 steps-ended c k s bounds going = record {
   ends = refl;
   goes_on = going;

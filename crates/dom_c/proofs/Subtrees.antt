@@ -3,7 +3,7 @@ use Rattle.std.proofs.Common.{◌≡◌, ℕ, Bool, true, false, List, length, m
 use Rattle.dom_model.specs.declared.OwnError.{OwnError}
 use Rattle.dom_model.specs.Definitions.{Forest, Content, World}
 use Rattle.dom_session.specs.{Neighbours.laid_over, BorrowedData.lent_as, Subtree.subtree_part, Subtree.part_in, Subtree.laid_where, Subtree.subtree_in, declared.subtree.SubtreeNode.SubtreeNode, declared.subtree.SubtreePart.SubtreePart}
-use Rattle.dom_wire.specs.Sessions.{StandsFor, held_world}
+use Rattle.dom_session.specs.Sessions.{StandsFor, held_world}
 use Rattle.dom_c.specs.{BorrowedData.status_of_lent, BorrowedData.status_of_lent_at_end, BorrowedData.lent_or_before, BorrowedData.IsLentOrEnded, BorrowedData.LendsKept, declared.handle_state.HandleState.HandleState}
 
 abbrev pub status_at : {A : Type 0} → Bool → Result (Option A) OwnError → ℕ

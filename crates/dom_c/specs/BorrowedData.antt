@@ -5,7 +5,7 @@ use Rattle.dom_model.specs.Forests.Attributes.{Attribute}
 use Rattle.dom_model.specs.Forests.Forest.{Forest}
 use Rattle.dom_model.specs.Worlds.World.{Content, World}
 use Rattle.dom_session.specs.BorrowedData.{lent_as, lent_whole, label_of_node, data_in, attribute_of_node}
-use Rattle.dom_wire.specs.Sessions.{StandsFor, held_world}
+use Rattle.dom_session.specs.Sessions.{StandsFor, held_world}
 use Rattle.dom_c.specs.Statuses.{status_of_own, not_there, has_ended, closed_status}
 use Rattle.dom_c.specs.ReplyItems.{status_found, or_before}
 use Rattle.dom_c.specs.Rows.{name_part}

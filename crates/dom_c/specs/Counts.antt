@@ -3,7 +3,7 @@ use Rattle.std.specs.Prelude.{◌≡◌, ℕ, Bool, true, false, Option, Some, N
 use Rattle.dom_model.specs.Worlds.World.{World}
 use Rattle.dom_session.specs.declared.in_use.Counts as found
 use Rattle.dom_session.specs.InUse.{in_use_of, in_use_in}
-use Rattle.dom_wire.specs.Sessions.{SessionView, StandsFor, held_world}
+use Rattle.dom_session.specs.Sessions.{SessionView, StandsFor, held_world}
 use Rattle.dom_c.specs.Statuses.{has_ended, closed_status}
 use Rattle.dom_c.specs.declared.handle_state.HandleState.{HandleState}
 use Rattle.dom_c.specs.declared.handle.Handle.{Handle}

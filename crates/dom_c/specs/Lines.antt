@@ -7,7 +7,7 @@ use Rattle.dom_model.specs.Commands.Table.{whole_table}
 use Rattle.dom_model.specs.Commands.Line.{command_within}
 use Rattle.dom_model.specs.Commands.Output.{step_of}
 use Rattle.dom_model.specs.Commands.Printed.{reply_line}
-use Rattle.dom_wire.specs.Sessions.{SessionView, StandsFor, reply_view}
+use Rattle.dom_session.specs.Sessions.{SessionView, StandsFor, reply_view}
 use Rattle.dom_c.specs.Statuses.{out_of_memory, closed_status, not_there}
 use Rattle.dom_c.specs.Answers.{Ends}
 use Rattle.dom_c.specs.declared.handle_state.HandleState.{HandleState}

@@ -6,7 +6,7 @@ use Rattle.dom_model.specs.Forests.Forest.{Forest, children_of}
 use Rattle.dom_model.specs.Worlds.World.{Content, World}
 use Rattle.dom_session.specs.declared.neighbours.Neighbours.{Neighbours}
 use Rattle.dom_session.specs.Neighbours.{links_in, first_child_in, last_child_in, child_in, child_count_in, laid_over}
-use Rattle.dom_wire.specs.Sessions.{StandsFor, held_world}
+use Rattle.dom_session.specs.Sessions.{StandsFor, held_world}
 use Rattle.dom_c.specs.Statuses.{status_of_own, has_ended, closed_status}
 use Rattle.dom_c.specs.WrittenValues.{number_or_null}
 use Rattle.dom_c.specs.declared.handle_state.HandleState.{HandleState}

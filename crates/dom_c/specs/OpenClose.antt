@@ -2,7 +2,7 @@
 use Rattle.std.specs.Prelude.{◌≡◌, ℕ, nat_le, ◌&&◌, true, false, [], Option, Some, None, is_some, if◌then◌else◌}
 use Rattle.dom_model.specs.Worlds.World.{first_world}
 use Rattle.dom_model.specs.Commands.Answer.{Bounds}
-use Rattle.dom_wire.specs.Sessions.{StandsFor}
+use Rattle.dom_session.specs.Sessions.{StandsFor}
 use Rattle.dom_c.specs.Statuses.{out_of_memory, closed_status, already_open, bad_limits}
 use Rattle.dom_c.specs.declared.handle_state.HandleState.{HandleState}
 use Rattle.dom_c.specs.declared.handle.Handle.{Handle}

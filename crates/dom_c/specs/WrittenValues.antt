@@ -3,7 +3,7 @@ use Rattle.std.specs.Prelude.{ℕ, ℤ, pos, negsuc, nat_eq, nat_lt, Bool, true,
 use Rattle.std.specs.declared.cmp.Ordering.{Ordering}
 use Rattle.std.specs.declared.cmp.Ordering.TheVariants.{Less, Equal, Greater}
 use Rattle.dom_model.specs.Commands.Reply.{Reply, Done, Answer, Number, MaybeNumber, Flag, Order}
-use Rattle.dom_wire.specs.Sessions.{reply_view}
+use Rattle.dom_session.specs.Sessions.{reply_view}
 use Rattle.dom_c.specs.Statuses.{has_ended}
 use Rattle.dom_c.specs.declared.handle_state.HandleState.{HandleState}
 use Rattle.dom_c.specs.declared.handle.Handle.{Handle}

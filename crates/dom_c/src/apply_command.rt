@@ -3,9 +3,9 @@
 ghost use Rattle.std.specs.Prelude.{◌≡◌, ℕ, List, Ok, Result};
 ghost use Rattle.dom_model.specs.declared.Move.{Move as AMove};
 ghost use Rattle.dom_model.specs.Commands.Command.{Command as PlainCommand, CreateElement, CreateText, NextNode, PreviousNode, Walk, HasAttribute};
-ghost use Rattle.dom_session.specs.Brief.{reply_of};
-ghost use Rattle.dom_session.specs.Views.{making_view, editing_view, reading_view};
-ghost use Rattle.dom_wire.specs.Sessions.{command_view, reply_view};
+ghost use Rattle.dom_commands.specs.Brief.{reply_of};
+ghost use Rattle.dom_commands.specs.Views.{making_view, editing_view, reading_view};
+ghost use Rattle.dom_session.specs.Sessions.{command_view, reply_view};
 ghost use Rattle.dom_c.specs.Answers.{StepsState, Answers, AsksOrEnded, with_reply, at_end};
 ghost use Rattle.dom_c.specs.Arguments.{ReadsArgument, IsFaultOf, utf8_name, then_make};
 ghost use Rattle.dom_c.specs.Statuses.{status_of, status_at_end, out_of_memory};
@@ -17,8 +17,10 @@ use crate::status::{
     HP_BAD_CHOICE, HP_BAD_LENGTHS, HP_CLOSED, HP_NOT_UTF8, HP_OUT_OF_MEMORY, status_at_end,
     status_of, status_of_brief,
 };
-use dom_session::{Brief, Editing, IteratorId, Making, Move, NodeId, Reading, Units, WalkerId};
-use dom_wire::{Command, Ended, OutOfMemory, Reply};
+use dom_session::{
+    Brief, Command, Editing, Ended, IteratorId, Making, Move, NodeId, OutOfMemory, Reading, Reply,
+    Units, WalkerId,
+};
 
 impl HandleState {
     // Stores a reply, and returns its status.
@@ -116,7 +118,8 @@ impl HandleState {
         }
         match self.session.edit(command) {
             Ok(reply) => self.note(reply),
-            Err(Ended) => self.end(),
+            Err(OutOfMemory::Refused) => HP_OUT_OF_MEMORY,
+            Err(OutOfMemory::Ended) => self.end(),
         }
     }
 

@@ -2,7 +2,7 @@
 
 ghost use Rattle.std.specs.Prelude.{◌≡◌, Ok};
 ghost use Rattle.dom_model.specs.Commands.Command.{SetAttribute, GetAttribute, HasAttribute, RemoveAttribute, ToggleAttribute, AttributeNames};
-ghost use Rattle.dom_wire.specs.Sessions.{command_view};
+ghost use Rattle.dom_session.specs.Sessions.{command_view};
 ghost use Rattle.dom_c.specs.Answers.{Answers, Asks};
 ghost use Rattle.dom_c.specs.Arguments.{ReadsArgument, choice_in, utf8_name, then_make};
 ghost use Rattle.dom_c.specs.WrittenValues.{answer_of_call, as_answered, flag_out};
@@ -10,8 +10,7 @@ ghost use Rattle.dom_c.specs.WrittenValues.{answer_of_call, as_answered, flag_ou
 use crate::argument_fault::ArgumentFault;
 use crate::arguments::{choice_of, name_of, units_of};
 use crate::handle::Handle;
-use dom_session::{Attributes, NodeId};
-use dom_wire::Command;
+use dom_session::{Attributes, Command, NodeId};
 use std::alloc::Global;
 
 // Reads the arguments of `hp_set_attribute`.

@@ -4,7 +4,7 @@
 ghost use Rattle.std.specs.Prelude.{◌≡◌};
 ghost use Rattle.dom_model.specs.Worlds.World.{World};
 ghost use Rattle.dom_session.specs.BorrowedData.{lent_as};
-ghost use Rattle.dom_wire.specs.Sessions.{StandsFor, held_world};
+ghost use Rattle.dom_session.specs.Sessions.{StandsFor, held_world};
 ghost use Rattle.dom_c.specs.BorrowedData.{LendsForest, name_out, data_out, attribute_name_out, attribute_value_out};
 
 use crate::borrowed_text::{Bytes, Text};
@@ -12,8 +12,7 @@ use crate::handle::Handle;
 use crate::handle_state::HandleState;
 use crate::labels::name_part;
 use crate::status::{HP_CLOSED, HP_NOT_THERE, status_of_own};
-use dom_session::NodeId;
-use dom_wire::OwnError;
+use dom_session::{NodeId, OwnError};
 
 impl HandleState {
     // Borrows a part of a node's name.

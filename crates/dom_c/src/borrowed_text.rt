@@ -1,15 +1,14 @@
 //! Borrowing from the last answer: bytes and texts, which are valid until the next call with the handle.
 
 ghost use Rattle.std.specs.Prelude.{◌≡◌, List, ℕ, Option, Some, None, option_map, option_and_then, string_bytes};
-ghost use Rattle.dom_wire.specs.Sessions.{answer_view};
+ghost use Rattle.dom_session.specs.Sessions.{answer_view};
 ghost use Rattle.dom_c.specs.WrittenValues.{last_answer_of};
 ghost use Rattle.dom_c.specs.ReplyItems.{look_up_status, looked_up, or_before, reply_text, name_at, line_status, line_lent};
 
 use crate::handle::Handle;
 use crate::handle_state::HandleState;
 use crate::status::{HP_CLOSED, HP_NOT_THERE, HP_OK, HP_OUT_OF_MEMORY};
-use dom_session::Answer;
-use dom_wire::Reply;
+use dom_session::{Answer, Reply};
 
 // (Before a call it holds a pointer that is not null; in C the header's inline forms see to that.)
 /// Borrowed bytes.

@@ -2,7 +2,7 @@
 
 ghost use Rattle.std.specs.Prelude.{◌≡◌, Ok};
 ghost use Rattle.dom_model.specs.Commands.Command.{GetData, SetData, AppendData, InsertData, DeleteData, ReplaceData, SubstringData, SplitText};
-ghost use Rattle.dom_wire.specs.Sessions.{command_view};
+ghost use Rattle.dom_session.specs.Sessions.{command_view};
 ghost use Rattle.dom_c.specs.Answers.{Answers};
 ghost use Rattle.dom_c.specs.Arguments.{ReadsArgument};
 ghost use Rattle.dom_c.specs.WrittenValues.{answer_of_call, number_out};
@@ -10,8 +10,7 @@ ghost use Rattle.dom_c.specs.WrittenValues.{answer_of_call, number_out};
 use crate::argument_fault::ArgumentFault;
 use crate::arguments::units_of;
 use crate::handle::Handle;
-use dom_session::{NodeId, Texts};
-use dom_wire::Command;
+use dom_session::{Command, NodeId, Texts};
 use std::alloc::Global;
 
 /// Finds the data of a node: `hp_text` reads the answer.

@@ -6,8 +6,7 @@ ghost use Rattle.dom_c.specs.Answers.{Answers};
 ghost use Rattle.dom_c.specs.WrittenValues.{answer_of_call, number_out};
 
 use crate::handle::Handle;
-use dom_session::{Copying, NodeId};
-use dom_wire::Command;
+use dom_session::{Command, Copying, NodeId};
 
 /// Copies a node for another document, with or without its descendants.
 #[unsafe(no_mangle)]

@@ -2,7 +2,7 @@
 
 ghost use Rattle.std.specs.Prelude.{◌≡◌};
 ghost use Rattle.dom_model.specs.Worlds.World.{World};
-ghost use Rattle.dom_wire.specs.Sessions.{StandsFor};
+ghost use Rattle.dom_session.specs.Sessions.{StandsFor};
 ghost use Rattle.dom_c.specs.Counts.{ReadsWorld, counts_out, in_use_out, in_use_held, made_out, made_held};
 
 use crate::handle::Handle;

@@ -3,7 +3,7 @@
 ghost use Rattle.std.specs.Prelude.{◌≡◌, ℕ, List, Ok, Result};
 ghost use Rattle.dom_model.specs.declared.Move.{Move as AMove};
 ghost use Rattle.dom_model.specs.Commands.Command.{Command as PlainCommand, CreateElement, CreateText, NextNode, PreviousNode, Walk, HasAttribute};
-ghost use Rattle.dom_session.specs.Views.{making_view, editing_view, reading_view};
+ghost use Rattle.dom_commands.specs.Views.{making_view, editing_view, reading_view};
 ghost use Rattle.dom_c.specs.Answers.{Answers, Asks};
 ghost use Rattle.dom_c.specs.Arguments.{ReadsArgument, utf8_name, then_make};
 ghost use Rattle.dom_c.specs.WrittenValues.{answer_of_call, as_answered, number_out, maybe_number_out, flag_out};

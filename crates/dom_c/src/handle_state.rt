@@ -1,6 +1,6 @@
 //! The state of a handle, on the heap.
 
-use dom_wire::{Reply, Session};
+use dom_session::{Reply, Session};
 use std::alloc::Global;
 
 /// A session, the last reply, the last line that was printed, the limit of bytes of a line, and whether the session is out of memory.

@@ -1,7 +1,7 @@
 //! The names of a node, borrowed from the answer of `hp_node`.
 
 ghost use Rattle.std.specs.Prelude.{◌≡◌, List, ℕ, Option, option_map, option_and_then};
-ghost use Rattle.dom_wire.specs.Sessions.{answer_view};
+ghost use Rattle.dom_session.specs.Sessions.{answer_view};
 ghost use Rattle.dom_c.specs.WrittenValues.{last_answer_of};
 ghost use Rattle.dom_c.specs.ReplyItems.{look_up_status, looked_up, or_before};
 ghost use Rattle.dom_c.specs.Rows.{own_name, doctype_id, name_part, node_name_part};
@@ -10,8 +10,7 @@ use crate::borrowed_text::Bytes;
 use crate::handle::Handle;
 use crate::handle_state::HandleState;
 use crate::status::{HP_CLOSED, HP_NOT_THERE, HP_OK, HP_OUT_OF_MEMORY};
-use dom_session::{Answer, Kind, Label};
-use dom_wire::Reply;
+use dom_session::{Answer, Kind, Label, Reply};
 
 // Borrows the name of an element or a doctype, or the target of a processing instruction.
 fn own_name(kind: Kind, name: &str) -> Option<&[u8]>

@@ -4,16 +4,15 @@ ghost use Rattle.std.specs.Prelude.{◌≡◌, true, Err, IfOk};
 ghost use Rattle.dom_model.specs.Commands.Reply.{is_refusal};
 ghost use Rattle.dom_model.specs.Commands.Table.{whole_table};
 ghost use Rattle.dom_model.specs.Commands.Line.{command_within};
-ghost use Rattle.dom_wire.specs.Sessions.{IsAsBefore, reply_view};
+ghost use Rattle.dom_session.specs.Sessions.{IsAsBefore, reply_view};
 ghost use Rattle.dom_wire.specs.Reads.{ReadsCommand};
 ghost use Rattle.dom_c.specs.Lines.{AnswersLine, TakesLine, IsPrinted, IsReply, PrintsLast, PrintsLastIn, step_in};
 
 use crate::handle::Handle;
 use crate::handle_state::HandleState;
 use crate::status::{HP_CLOSED, HP_NOT_THERE, HP_OK, HP_OUT_OF_MEMORY, status_of};
-use dom_wire::{
-    Brief, Command, OutOfMemory, OwnError, ReadError, Reply, Session, read_line, write_reply,
-};
+use dom_session::{Brief, Command, OutOfMemory, OwnError, Reply, Session};
+use dom_wire::{ReadError, read_line, write_reply};
 use std::alloc::Global;
 
 // Returns the command of a line within a limit, or the refusal of its form.

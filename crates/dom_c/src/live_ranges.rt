@@ -8,8 +8,7 @@ ghost use Rattle.dom_c.specs.Positions.{ends_out};
 
 use crate::handle::Handle;
 use crate::positions::Ends;
-use dom_session::{NodeId, RangeId, Ranging, Reading, Setting};
-use dom_wire::Command;
+use dom_session::{Command, NodeId, RangeId, Ranging, Reading, Setting};
 
 /// Makes a live range at the start of a document.
 #[unsafe(no_mangle)]

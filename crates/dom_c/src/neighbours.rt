@@ -3,7 +3,7 @@
 
 ghost use Rattle.std.specs.Prelude.{◌≡◌};
 ghost use Rattle.dom_model.specs.Worlds.World.{World};
-ghost use Rattle.dom_wire.specs.Sessions.{StandsFor, held_world};
+ghost use Rattle.dom_session.specs.Sessions.{StandsFor, held_world};
 ghost use Rattle.dom_c.specs.Statuses.{found_at};
 ghost use Rattle.dom_c.specs.Neighbours.{ReadsForest, node_links, links_out, first_child_out, last_child_out, child_out, child_count_out, children_over};
 
@@ -11,8 +11,7 @@ use crate::handle::Handle;
 use crate::handle_state::HandleState;
 use crate::status::{HP_CLOSED, HP_ENDED, HP_OK, status_of_own};
 use crate::write_positions::{kind_number, node_number};
-use dom_session::{Neighbours, NodeId};
-use dom_wire::OwnError;
+use dom_session::{Neighbours, NodeId, OwnError};
 
 /// A node: the standard's number of its kind (`nodeType`), its node document, its parent, siblings and first and last child, or
 /// `HP_NONE`, the number of its children, and its length.

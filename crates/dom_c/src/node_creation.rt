@@ -2,7 +2,7 @@
 
 ghost use Rattle.std.specs.Prelude.{◌≡◌, Ok};
 ghost use Rattle.dom_model.specs.Commands.Command.{NewDocument, CreateElement, CreateText, CreateComment, CreatePI, CreateDoctype, CreateFragment};
-ghost use Rattle.dom_session.specs.Views.{making_view};
+ghost use Rattle.dom_commands.specs.Views.{making_view};
 ghost use Rattle.dom_c.specs.Answers.{Answers};
 ghost use Rattle.dom_c.specs.Arguments.{ReadsArgument, utf8_name, then_make};
 ghost use Rattle.dom_c.specs.WrittenValues.{answer_of_call, number_out};

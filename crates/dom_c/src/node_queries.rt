@@ -10,8 +10,7 @@ ghost use Rattle.dom_c.specs.Positions.{position_out};
 use crate::arguments::node_or_none;
 use crate::handle::Handle;
 use crate::positions::NodePosition;
-use dom_session::{Asking, Copying, NodeId, Reading, Texts};
-use dom_wire::Command;
+use dom_session::{Asking, Command, Copying, NodeId, Reading, Texts};
 
 /// Writes a node's kind and its neighbours; `hp_node_name` lends its names.
 #[unsafe(no_mangle)]

@@ -1,7 +1,7 @@
 //! The notified observers, the answer of `hp_notify`.
 
 ghost use Rattle.std.specs.Prelude.{◌≡◌, ℕ, Option, option_and_then};
-ghost use Rattle.dom_wire.specs.Sessions.{answer_view};
+ghost use Rattle.dom_session.specs.Sessions.{answer_view};
 ghost use Rattle.dom_c.specs.WrittenValues.{last_answer_of};
 ghost use Rattle.dom_c.specs.ReplyItems.{look_up_status, looked_up, or_before};
 ghost use Rattle.dom_c.specs.Records.{notice_at};
@@ -9,8 +9,7 @@ ghost use Rattle.dom_c.specs.Records.{notice_at};
 use crate::handle::Handle;
 use crate::handle_state::HandleState;
 use crate::status::{HP_CLOSED, HP_NOT_THERE, HP_OK, HP_OUT_OF_MEMORY};
-use dom_session::Answer;
-use dom_wire::Reply;
+use dom_session::{Answer, Reply};
 
 /// A notice: the number of the observer, and the number of its records.
 #[repr(C)]

@@ -2,7 +2,7 @@
 
 ghost use Rattle.std.specs.Prelude.{◌≡◌, Ok};
 ghost use Rattle.dom_model.specs.Commands.Command.{CreateObserver, Observe, Disconnect, TakeRecords, Notify, Pending, ReleaseObserver, TakePending, TellObserver};
-ghost use Rattle.dom_wire.specs.Sessions.{command_view};
+ghost use Rattle.dom_session.specs.Sessions.{command_view};
 ghost use Rattle.dom_c.specs.Answers.{Answers};
 ghost use Rattle.dom_c.specs.Arguments.{ReadsArgument, then_make};
 ghost use Rattle.dom_c.specs.NameLists.{given_options};
@@ -11,8 +11,7 @@ ghost use Rattle.dom_c.specs.WrittenValues.{answer_of_call, number_out};
 use crate::argument_fault::ArgumentFault;
 use crate::handle::Handle;
 use crate::options::{Options, options_of};
-use dom_session::{NodeId, ObserverId, Observing};
-use dom_wire::Command;
+use dom_session::{Command, NodeId, ObserverId, Observing};
 use std::alloc::Global;
 
 /// Makes a mutation observer.

@@ -1,14 +1,14 @@
 //! Opening and closing a session.
 
 ghost use Rattle.std.specs.Prelude.{◌≡◌, ◌≤◌, IfOk};
-ghost use Rattle.dom_wire.specs.Sessions.{bounds_of};
+ghost use Rattle.dom_session.specs.Sessions.{bounds_of};
 ghost use Rattle.dom_c.specs.OpenClose.{Opens, Closes, IsNew};
 
 use crate::handle::Handle;
 use crate::handle_state::HandleState;
 use crate::status::{HP_ALREADY_OPEN, HP_BAD_LIMITS, HP_CLOSED, HP_OK, HP_OUT_OF_MEMORY};
 use crate::stored_state::StoredState;
-use dom_wire::{Limits, Session};
+use dom_session::{Limits, Session};
 use std::alloc::{AllocError, Global};
 use std_alloc::room::Vacant;
 

@@ -6,8 +6,7 @@ ghost use Rattle.dom_c.specs.Answers.{Answers};
 ghost use Rattle.dom_c.specs.WrittenValues.{answer_of_call, number_out};
 
 use crate::handle::Handle;
-use dom_session::{Contents, NodeId, RangeId};
-use dom_wire::Command;
+use dom_session::{Command, Contents, NodeId, RangeId};
 
 /// Finds the text in a range: `hp_text` reads the answer.
 #[unsafe(no_mangle)]

@@ -6,8 +6,7 @@ ghost use Rattle.dom_c.specs.Answers.{Answers};
 ghost use Rattle.dom_c.specs.WrittenValues.{answer_of_call, flag_out, number_out, order_out};
 
 use crate::handle::Handle;
-use dom_session::{Comparing, NodeId, RangeId};
-use dom_wire::Command;
+use dom_session::{Command, Comparing, NodeId, RangeId};
 
 /// Compares an end of the first range with one of the second; `how` is 0 to 3, as the standard numbers them.
 #[unsafe(no_mangle)]

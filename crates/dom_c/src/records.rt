@@ -2,7 +2,7 @@
 
 ghost use Rattle.std.specs.Prelude.{◌≡◌, List, ℕ, Option, length, map, slice_get, option_map, option_and_then};
 ghost use Rattle.dom_model.specs.MutationObservers.Record.{Record as PlainRecord};
-ghost use Rattle.dom_wire.specs.Sessions.{answer_view};
+ghost use Rattle.dom_session.specs.Sessions.{answer_view};
 ghost use Rattle.dom_c.specs.WrittenValues.{last_answer_of};
 ghost use Rattle.dom_session.specs.Neighbours.{laid_over};
 ghost use Rattle.dom_c.specs.ReplyItems.{look_up_status, looked_up, or_before, laid_or_before};
@@ -13,8 +13,7 @@ use crate::handle::Handle;
 use crate::handle_state::HandleState;
 use crate::status::{HP_CLOSED, HP_NOT_THERE, HP_OK, HP_OUT_OF_MEMORY};
 use crate::write_positions::node_number;
-use dom_session::{Answer, NodeId, Record as MutationRecord, RecordType};
-use dom_wire::Reply;
+use dom_session::{Answer, NodeId, Record as MutationRecord, RecordType, Reply};
 
 /// The record of an attribute.
 pub const HP_ATTRIBUTES: u8 = 0;

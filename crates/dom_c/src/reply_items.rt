@@ -1,7 +1,7 @@
 //! Reading the last answer: its text, and its parts by their index.
 
 ghost use Rattle.std.specs.Prelude.{◌≡◌, List, ℕ, Option, length, option_map, option_and_then, slice_get, string_bytes};
-ghost use Rattle.dom_wire.specs.Sessions.{answer_view};
+ghost use Rattle.dom_session.specs.Sessions.{answer_view};
 ghost use Rattle.dom_c.specs.WrittenValues.{last_answer_of};
 ghost use Rattle.dom_session.specs.Neighbours.{laid_over};
 ghost use Rattle.dom_c.specs.ReplyItems.{look_up_status, looked_up, or_before, laid_or_before, item_count, numbers_in, listed_number};
@@ -9,8 +9,7 @@ ghost use Rattle.dom_c.specs.ReplyItems.{look_up_status, looked_up, or_before, l
 use crate::handle::Handle;
 use crate::handle_state::HandleState;
 use crate::status::{HP_CLOSED, HP_NOT_THERE, HP_OK, HP_OUT_OF_MEMORY};
-use dom_session::Answer;
-use dom_wire::Reply;
+use dom_session::{Answer, Reply};
 
 // Returns the number of parts of an answer, if it has parts.
 fn count_of(answer: &Answer) -> Option<usize>

@@ -2,7 +2,7 @@
 
 ghost use Rattle.std.specs.Prelude.{◌≡◌, List, ℕ, Option, option_map, option_and_then};
 ghost use Rattle.dom_model.specs.Commands.Reply.{TreeRow as PlainRow};
-ghost use Rattle.dom_wire.specs.Sessions.{answer_view};
+ghost use Rattle.dom_session.specs.Sessions.{answer_view};
 ghost use Rattle.dom_c.specs.WrittenValues.{last_answer_of};
 ghost use Rattle.dom_c.specs.ReplyItems.{look_up_status, looked_up, or_before};
 ghost use Rattle.dom_c.specs.Rows.{row_in, row_out, row_at, row_name_at, row_text_of, row_text_at, attribute_name_in, attribute_value_in, row_attribute_name_at, row_attribute_value_at};
@@ -13,8 +13,7 @@ use crate::handle_state::HandleState;
 use crate::labels::name_part;
 use crate::status::{HP_CLOSED, HP_NOT_THERE, HP_OK, HP_OUT_OF_MEMORY};
 use dom_kinds::NodeType;
-use dom_session::{Answer, Kind, TreeRow};
-use dom_wire::Reply;
+use dom_session::{Answer, Kind, Reply, TreeRow};
 
 /// A row of a tree: the node's depth below the printed root, its number, the standard's number of its kind (`nodeType`), and the number
 /// of its attributes.

@@ -8,8 +8,7 @@ ghost use Rattle.dom_c.specs.Positions.{static_ends_out};
 
 use crate::handle::Handle;
 use crate::positions::StaticEnds;
-use dom_session::{NodeId, Point, Reading, StaticId, StaticRanging};
-use dom_wire::Command;
+use dom_session::{Command, NodeId, Point, Reading, StaticId, StaticRanging};
 
 /// Makes a static range.
 #[unsafe(no_mangle)]

@@ -1,13 +1,12 @@
 //! The statuses of calls: the standard's codes for its exceptions, and ours from 32 on.
 
 ghost use Rattle.std.specs.Prelude.{◌≡◌};
-ghost use Rattle.dom_session.specs.Brief.{reply_of};
-ghost use Rattle.dom_wire.specs.Sessions.{reply_view};
+ghost use Rattle.dom_commands.specs.Brief.{reply_of};
+ghost use Rattle.dom_session.specs.Sessions.{reply_view};
 ghost use Rattle.dom_c.specs.Statuses.{status_of, status_of_dom, status_of_own, status_at_end};
 ghost use Rattle.dom_c.specs.WrittenValues.{as_answered};
 
-use dom_session::{Brief, DomError};
-use dom_wire::{OwnError, Reply};
+use dom_session::{Brief, DomError, OwnError, Reply};
 
 /// The call succeeded.
 pub const HP_OK: u8 = 0;

@@ -2,7 +2,7 @@
 
 ghost use Rattle.std.specs.Prelude.{◌≡◌, Ok};
 ghost use Rattle.dom_model.specs.Commands.Command.{CreateIterator, CreateWalker, DescribeIterator, NextNode, PreviousNode, DescribeWalker, SetCurrent, Walk, ReleaseIterator, ReleaseWalker};
-ghost use Rattle.dom_wire.specs.Sessions.{command_view};
+ghost use Rattle.dom_session.specs.Sessions.{command_view};
 ghost use Rattle.dom_c.specs.Answers.{Answers, Asks};
 ghost use Rattle.dom_c.specs.Arguments.{ReadsArgument, move_of_number, then_make};
 ghost use Rattle.dom_c.specs.NameLists.{rules_in};
@@ -14,8 +14,7 @@ use crate::arguments::move_of;
 use crate::filters::rules_of;
 use crate::handle::Handle;
 use crate::positions::{IteratorAt, WalkerAt};
-use dom_session::{Filter, IteratorId, NodeId, Reading, Traversing, WalkerId};
-use dom_wire::Command;
+use dom_session::{Command, Filter, IteratorId, NodeId, Reading, Traversing, WalkerId};
 use std::alloc::Global;
 
 // Reads the arguments of `hp_create_iterator`.

@@ -2,15 +2,14 @@
 
 ghost use Rattle.std.specs.Prelude.{Ok};
 ghost use Rattle.dom_model.specs.Commands.Command.{InsertBefore, AppendChild, AdoptNode, ReplaceChild, RemoveChild, Remove, ReplaceChildren, Normalize, SetTextContent, Discard};
-ghost use Rattle.dom_wire.specs.Sessions.{command_view};
+ghost use Rattle.dom_session.specs.Sessions.{command_view};
 ghost use Rattle.dom_c.specs.Answers.{Answers};
 ghost use Rattle.dom_c.specs.Arguments.{ReadsArgument, number_or_none};
 
 use crate::argument_fault::ArgumentFault;
 use crate::arguments::{node_or_none, units_of};
 use crate::handle::Handle;
-use dom_session::{Editing, NodeId, Texts};
-use dom_wire::Command;
+use dom_session::{Command, Editing, NodeId, Texts};
 use std::alloc::Global;
 
 /// Inserts a node into a parent, before a child; with `HP_NONE` as the child, last.

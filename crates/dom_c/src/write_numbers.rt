@@ -2,7 +2,7 @@
 
 ghost use Rattle.std.specs.Prelude.{◌≡◌, ℕ, Result, Ok, Some};
 ghost use Rattle.dom_model.specs.Commands.Command.{Command as PlainCommand};
-ghost use Rattle.dom_wire.specs.Sessions.{command_view, reading_view, answer_view, reply_view};
+ghost use Rattle.dom_session.specs.Sessions.{command_view, reading_view, answer_view, reply_view};
 ghost use Rattle.dom_c.specs.Answers.{Answers, Asks};
 ghost use Rattle.dom_c.specs.Arguments.{ReadsArgument};
 ghost use Rattle.dom_c.specs.WrittenValues.{answer_of, answer_of_call, answer_of_status, as_answered, number_out, count_out, number_or_null, maybe_number_out, flag_number, flag_out, order_number, order_out};
@@ -11,8 +11,7 @@ use crate::argument_fault::ArgumentFault;
 use crate::handle::Handle;
 use crate::handle_state::HandleState;
 use crate::status::{HP_NONE, HP_OK, as_answered};
-use dom_session::{Answer, Brief, Reading};
-use dom_wire::{Command, Reply};
+use dom_session::{Answer, Brief, Command, Reading, Reply};
 use std::cmp::Ordering;
 
 /// Returns 1 for true, and 0 for false.

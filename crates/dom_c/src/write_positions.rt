@@ -2,7 +2,7 @@
 
 ghost use Rattle.std.specs.Prelude.{◌≡◌, ℕ, Result, Ok, Some};
 ghost use Rattle.dom_model.specs.Commands.Command.{Command as PlainCommand};
-ghost use Rattle.dom_wire.specs.Sessions.{command_view, reading_view, answer_view};
+ghost use Rattle.dom_session.specs.Sessions.{command_view, reading_view, answer_view};
 ghost use Rattle.dom_c.specs.Answers.{Answers, Asks};
 ghost use Rattle.dom_c.specs.Arguments.{ReadsArgument};
 ghost use Rattle.dom_c.specs.WrittenValues.{answer_of_call, answer_of_status, as_answered, number_or_null};
@@ -16,8 +16,7 @@ use crate::positions::{Ends, IteratorAt, NodePosition, StaticEnds, WalkerAt};
 use crate::status::{HP_NONE, HP_OK, as_answered};
 use crate::write_numbers::flag_number;
 use dom_kinds::NodeType;
-use dom_session::{Answer, Kind, NodeId, Reading};
-use dom_wire::{Command, Reply};
+use dom_session::{Answer, Command, Kind, NodeId, Reading, Reply};
 
 /// Returns the number of a node, or `HP_NONE`.
 pub(crate) fn node_number(node: Option<NodeId>) -> u32

@@ -5,7 +5,7 @@ ghost use Rattle.dom_model.specs.declared.Kind.TheVariants.{Element};
 ghost use Rattle.dom_model.specs.Forests.Nodes.{is_of_kind};
 ghost use Rattle.dom_model.specs.DataAndCopies.Data.{set_attribute, remove_attribute, toggle_attribute, has_attribute, is_toggled_on};
 ghost use Rattle.dom_observe.specs.ObservedNodes.{SameObservers};
-ghost use Rattle.dom_edit.specs.Whole.{IsWhole, Follows, unwatched};
+ghost use Rattle.dom_edit.specs.Whole.{IsWhole, IsUnobserved, Follows, unwatched};
 
 use crate::bodies::{has_in, remove_in, set_in};
 use crate::records::queue_attribute_record;
@@ -29,6 +29,7 @@ pub fn set_attribute(
     ensures set { OnOk result (Follows world.old world.new
         (set_attribute node (string_bytes name) value)) }
     ensures kept { OnErr result (world.new ≡ record world.old { observers = world.new.observers }) }
+    ensures unchanged { IsUnobserved world.old → OnErr result (world.new ≡ world.old) }
     ensures observers { SameObservers world.old.observers world.new.observers }
     ensures whole { IsWhole world.new }
 {
@@ -42,6 +43,7 @@ pub fn remove_attribute(world: &mut World, node: NodeId, name: &str) -> Result<(
     requires kind { is_of_kind Element world.old.tree.forest node ≡ true }
     ensures removed { OnOk result (Follows world.old world.new (remove_attribute node name.now)) }
     ensures kept { OnErr result (world.new ≡ record world.old { observers = world.new.observers }) }
+    ensures unchanged { IsUnobserved world.old → OnErr result (world.new ≡ world.old) }
     ensures observers { SameObservers world.old.observers world.new.observers }
     ensures whole { IsWhole world.new }
 {
@@ -70,6 +72,7 @@ pub fn toggle_attribute(
     ensures toggled { OnOk result (Follows world.old world.new
         (toggle_attribute node (string_bytes name) force)) }
     ensures kept { OnErr result (world.new ≡ record world.old { observers = world.new.observers }) }
+    ensures unchanged { IsUnobserved world.old → OnErr result (world.new ≡ world.old) }
     ensures observers { SameObservers world.old.observers world.new.observers }
     ensures whole { IsWhole world.new }
 {

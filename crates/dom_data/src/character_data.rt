@@ -6,7 +6,7 @@ ghost use Rattle.dom_model.specs.Forests.Kinds.{is_character_data};
 ghost use Rattle.dom_model.specs.Forests.Nodes.{kind_passes};
 ghost use Rattle.dom_model.specs.DataAndCopies.Data.{data_of, data_record, replace_units, check_offset, replace_data, set_data, substring_data};
 ghost use Rattle.dom_model.specs.TokenText.Edits.{replace_data_edits, set_data_edits};
-ghost use Rattle.dom_edit.specs.Whole.{IsWhole, Follows, unwatched};
+ghost use Rattle.dom_edit.specs.Whole.{IsWhole, IsUnobserved, Follows, unwatched};
 ghost use Rattle.dom_edit.specs.Markers.{StandByEdits};
 ghost use Rattle.dom_edit.specs.Refusals.{IsRefused};
 ghost use Rattle.dom_data.specs.SubstringRefusal.{IsNamed};
@@ -35,6 +35,7 @@ pub(crate) fn replace_units(
     ensures replaced { OnOk result (Follows world.old world.new (λ w.
         replace_units node offset count added.now (data_record node w))) }
     ensures kept { OnErr result (world.new ≡ record world.old { observers = world.new.observers }) }
+    ensures unchanged { IsUnobserved world.old → OnErr result (world.new ≡ world.old) }
     ensures nodes { KeepsNumbers world.old world.new }
     ensures whole { IsWhole world.new }
 {
@@ -65,6 +66,7 @@ pub fn replace_data(
     ensures refused { IfErr result (λ e. IsRefused e
         (check_offset (unwatched world.old) node offset) world.old world.new) }
     ensures left { OnErr result (world.new ≡ record world.old { observers = world.new.observers }) }
+    ensures unchanged { IsUnobserved world.old → OnErr result (world.new ≡ world.old) }
     ensures kept { KeepsNumbers world.old world.new }
     ensures whole { IsWhole world.new }
 {
@@ -92,6 +94,7 @@ pub fn replace_data_checked(
     ensures markers { OnOk result (StandByEdits world.old world.new
         (replace_data_edits node offset count added.now)) }
     ensures kept { OnErr result (world.new ≡ record world.old { observers = world.new.observers }) }
+    ensures unchanged { IsUnobserved world.old → OnErr result (world.new ≡ world.old) }
     ensures nodes { KeepsNumbers world.old world.new }
     ensures whole { IsWhole world.new }
 {
@@ -113,6 +116,7 @@ pub fn set_data(
     ensures markers { OnOk result (StandByEdits world.old world.new
         (set_data_edits node text.now)) }
     ensures kept { OnErr result (world.new ≡ record world.old { observers = world.new.observers }) }
+    ensures unchanged { IsUnobserved world.old → OnErr result (world.new ≡ world.old) }
     ensures nodes { KeepsNumbers world.old world.new }
     ensures whole { IsWhole world.new }
 {

@@ -1,12 +1,12 @@
 //! Records of changed data and attributes (DOM Standard, "Mutation observers", queue a mutation record).
 
-ghost use Rattle.std.specs.Prelude.{◌≡◌, Some, OnOk};
+ghost use Rattle.std.specs.Prelude.{◌≡◌, Some, OnOk, IsOk};
 ghost use Rattle.dom_model.specs.declared.RecordType.TheVariants.{Attributes};
 ghost use Rattle.dom_model.specs.Forests.Attributes.{attribute_value};
 ghost use Rattle.dom_model.specs.Forests.Forest.{HasNode, entry_in};
 ghost use Rattle.dom_model.specs.DataAndCopies.Data.{content_in, data_record, attribute_record};
 ghost use Rattle.dom_observe.specs.ObservedNodes.{SameObservers};
-ghost use Rattle.dom_edit.specs.Whole.{IsWhole, Follows};
+ghost use Rattle.dom_edit.specs.Whole.{IsWhole, IsUnobserved, Follows};
 ghost use Rattle.dom_data.specs.Changes.{change_of};
 
 use crate::bodies::value_in;
@@ -23,8 +23,13 @@ pub(crate) fn queue_data_record(world: &mut World, node: NodeId) -> Result<(), A
     ensures told { OnOk result (Follows world.old world.new (data_record node)) }
     ensures kept { world.new ≡ record world.old { observers = world.new.observers } }
     ensures observers { SameObservers world.old.observers world.new.observers }
+    ensures succeeds { IsUnobserved world.old → IsOk result }
+    ensures unobserved { IsUnobserved world.old → world.new ≡ world.old }
     ensures whole { IsWhole world.new }
 {
+    if world.observers.is_idle() {
+        return Ok(());
+    }
     let mutation = Mutation {
         what: RecordType::CharacterData,
         target: node,
@@ -68,8 +73,13 @@ pub(crate) fn queue_attribute_record(
     ensures told { OnOk result (Follows world.old world.new (attribute_record node name.now)) }
     ensures kept { world.new ≡ record world.old { observers = world.new.observers } }
     ensures observers { SameObservers world.old.observers world.new.observers }
+    ensures succeeds { IsUnobserved world.old → IsOk result }
+    ensures unobserved { IsUnobserved world.old → world.new ≡ world.old }
     ensures whole { IsWhole world.new }
 {
+    if world.observers.is_idle() {
+        return Ok(());
+    }
     let mutation = attribute_change(&world.tree, node, name);
     world.observers.queue_record(&world.tree, &mutation)
 }

@@ -2,14 +2,15 @@
 use Rattle.std.proofs.Common.{◌≡◌, ℕ, zero, suc, ◌<◌, ◌==◌, Bool, true, false, if◌then◌else◌, List, [], ◌∷◌, ◌++◌, length, get_or, Option, Some, None, refl, ap, sym, ◌∙◌, subst, arith}
 use Rattle.std.proofs.lemmas.Bool.{eqb-true, cond-true, cond-false}
 use Rattle.dom_model.specs.declared.Kind.TheVariants.{DocumentFragment}
-use Rattle.dom_model.specs.Definitions.{hits, Forest, occurs, children_of, Content, is_of_kind, remove, remove_all, nodes_of, is_fragment, emptied_fragment, tree_record, freed, previous_to, insert_all, insert_nodes, insert, IsInsertable}
+use Rattle.dom_model.specs.declared.RecordType.TheVariants.{ChildList}
+use Rattle.dom_model.specs.Definitions.{hits, Forest, occurs, children_of, ancestors, standing_on, noted, Content, is_of_kind, remove, remove_all, nodes_of, is_fragment, emptied_fragment, tree_record, freed, previous_to, insert_all, insert_nodes, insert, IsInsertable}
 use Rattle.dom_model.specs.Worlds.World as model
 use Rattle.dom_model.proofs.Forests.{Climbing.hits-first, Indices.child-there}
 use Rattle.dom_model.proofs.MutationAlgorithms.Loosened.{loosened-remove, loosened-remove_all}
 use Rattle.dom_model.proofs.Soundness.SoundInserting.{IsReady, freed_ready}
 use Rattle.dom_observe.specs.Watchers.{Watches}
-use Rattle.dom_edit.specs.{declared.world.World.World, Whole.IsWhole, Whole.Keeps, Whole.Follows, Whole.unwatched, declared.insertion.Incoming.Incoming, declared.insertion.Incoming.TheVariants.Alone, declared.insertion.Incoming.TheVariants.Children, Insertion.ComesIn, Insertion.brought, Insertion.AreThere, Insertion.IsOpen, KeptNodes.KeepsWatchers, KeptNodes.KeepsNodes}
-use Rattle.dom_edit.proofs.{FollowsLemmas.keeps-unwatched, FollowsLemmas.follows-none, FollowsLemmas.follows-then, PlacedInLemmas.placed-world, PlacedWorldLemmas.sound-unwatched, PlacedWorldLemmas.placing, KeepsLabelsLemmas.told_of, KeepsLabelsLemmas.kept-told, KeepsLabelsLemmas.told-all_placed}
+use Rattle.dom_edit.specs.{declared.world.World.World, Whole.IsWhole, Whole.Keeps, Whole.Follows, Whole.unwatched, declared.insertion.Incoming.Incoming, declared.insertion.Incoming.TheVariants.Alone, declared.insertion.Incoming.TheVariants.Children, Insertion.ComesIn, Insertion.brought, Insertion.AreThere, Insertion.IsOpen, Insertion.all_placed, Insertion.with_room, KeptNodes.KeepsWatchers, KeptNodes.KeepsNodes}
+use Rattle.dom_edit.proofs.{FollowsLemmas.keeps-unwatched, FollowsLemmas.follows-none, FollowsLemmas.follows-then, PlacedInLemmas.placed-world, PlacedInLemmas.above-all, PlacedWorldLemmas.sound-unwatched, PlacedWorldLemmas.placing, KeepsLabelsLemmas.told_of, KeepsLabelsLemmas.kept-told, KeepsLabelsLemmas.told-all_placed}
 
 -- a step that is another one, on all worlds with these parts
 pub follows-as : (a c : World) (s t : model.World → model.World) → ((w : model.World) → Keeps a w → t w ≡ s w) → Follows a c s → Follows a c t
@@ -118,12 +119,40 @@ nodes-placed a b parent child ns h ready f watchers =
     (statics-after a b (placing parent child ns) f ∙ ap (λ (w : model.World). w.static_ranges) placed)
     (walkers-after a b (placing parent child ns) f ∙ ap (λ (w : model.World). w.walkers) placed) watchers
 
-pub follows-insert_all : (a b c : World) (parent : ℕ) (child : Option ℕ) (ns : List ℕ) (suppressed : Bool) (previous : Option ℕ) → suppressed ≡ false → previous ≡ previous_to a.tree.forest parent child →
-    Follows a b (placing parent child ns) → Follows b c (tree_record parent ns [] previous child) → Follows a c (insert_all suppressed parent child ns)
-follows-insert_all a b c parent child ns suppressed previous s e f r =
-    follows-as a c (λ w. tree_record parent ns [] previous child (placing parent child ns w)) (insert_all suppressed parent child ns)
-    (λ w k. rw s (ap (λ q. tree_record parent ns [] q child (placing parent child ns w)) (ap (λ (g : Forest Content). previous_to g parent child) k.forest ∙ sym e)))
-    (follows-then a b c (placing parent child ns) (tree_record parent ns [] previous child) f r)
+-- A record may be queued before the nodes are put: the nodes above the parent stay, and with them the registrations of the record.
+
+-- the nodes are put, and a record with these nodes above the parent is queued
+abbrev with-record : List ℕ → ℕ → Option ℕ → List ℕ → Option ℕ → model.World → model.World
+with-record above parent child ns previous w = record w {
+  ranges = with_room w.forest parent child (length ns) w.ranges;
+  forest = all_placed parent child ns w.forest;
+  observing = noted (record {
+    type = ChildList;
+    target = parent;
+    name = None;
+    old_value = None;
+    added = ns;
+    removed = [];
+    previous = previous;
+    next = child;
+    standing = standing_on above w.observing.registrations;
+  }) w.observing;
+}
+
+record-first : (a : World) (parent : ℕ) (child : Option ℕ) (ns : List ℕ) (previous : Option ℕ) (w : model.World) → IsWhole a → IsOpen a.tree.forest parent child ns → Keeps a w
+    → tree_record parent ns [] previous child (placing parent child ns w) ≡ placing parent child ns (tree_record parent ns [] previous child w)
+record-first a parent child ns previous w h ready k =
+    let above = subst (λ (f : Forest Content). ancestors parent (all_placed parent child ns f) ≡ ancestors parent f) (sym k.forest) (above-all a.tree h.forest parent child ns ready) in
+    ap (tree_record parent ns [] previous child) (placed-world parent child ns w)
+    ∙ ap (λ ms. with-record ms parent child ns previous w) above
+    ∙ sym (placed-world parent child ns (tree_record parent ns [] previous child w))
+
+pub follows-insert_all : (a b c : World) (parent : ℕ) (child : Option ℕ) (ns : List ℕ) (suppressed : Bool) (previous : Option ℕ) → IsWhole a → IsOpen a.tree.forest parent child ns → suppressed ≡ false
+    → previous ≡ previous_to a.tree.forest parent child → Follows a b (tree_record parent ns [] previous child) → Follows b c (placing parent child ns) → Follows a c (insert_all suppressed parent child ns)
+follows-insert_all a b c parent child ns suppressed previous h ready s e r f =
+    follows-as a c (λ w. placing parent child ns (tree_record parent ns [] previous child w)) (insert_all suppressed parent child ns)
+    (λ w k. rw s (ap (λ q. tree_record parent ns [] q child (placing parent child ns w)) (ap (λ (g : Forest Content). previous_to g parent child) k.forest ∙ sym e) ∙ record-first a parent child ns previous w h ready k))
+    (follows-then a b c (tree_record parent ns [] previous child) (placing parent child ns) r f)
 
 pub follows-insert : (a b c : World) (n parent : ℕ) (child : Option ℕ) (ns : List ℕ) (suppressed : Bool) → (length ns == 0) ≡ false → ns ≡ entering a.tree.forest n → Follows a b (freed n ns) → Follows b c (insert_all suppressed parent child ns) → Follows a c (insert suppressed n parent child)
 follows-insert a b c n parent child ns suppressed some e f i =

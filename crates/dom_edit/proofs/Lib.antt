@@ -1,4 +1,3 @@
-pub mod NoAttributes
 pub mod IsAmongLemmas
 pub mod InsertionPointLemmas
 pub mod FollowsLemmas
@@ -25,6 +24,5 @@ pub mod StandByEditsLemmas
 pub mod IsInsertableLemmas
 pub mod CallerLemmas
 pub mod ReleaseLemmas
-pub mod TailLemmas
 pub mod UnobservedLemmas
 pub mod AppendLeafLemmas

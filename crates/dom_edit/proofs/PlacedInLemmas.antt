@@ -1,12 +1,12 @@
 -- Roots that are put under a parent one after another: what is left for those that follow, and what is kept of the forest.
-use Rattle.std.proofs.Common.{IfSome, IsSome, ◌≡◌, ℕ, zero, suc, ◌+◌, ◌<◌, ◌≤◌, ◌^◌, nat_lt, true, false, if◌then◌else◌, List, [], ◌∷◌, ◌++◌, length, All, Option, Some, None, refl, ap, sym, ◌∙◌, subst, arith, length-append}
+use Rattle.std.proofs.Common.{IfSome, IsSome, ◌≡◌, ℕ, zero, suc, ◌+◌, ◌<◌, ◌≤◌, ◌^◌, nat_lt, true, false, if◌then◌else◌, List, [], ◌∷◌, ◌++◌, length, All, Option, Some, None, refl, ap, sym, ◌∙◌, subst, arith, length-append, append-nil}
 use Rattle.std.proofs.lemmas.List.Elements.{All-nil, All-weaker}
-use Rattle.dom_model.specs.Definitions.{hits, among, Entry, HasOneDocument, Node, Forest, empty, node, Grove, IsForest, HasNode, occurs, size, numbers, entry_in, children_of, index_of, put, Content, Point, Range, Iterator, Walker, World, IsBoundary, IsRange, IsIterator, IsWalker, IsRegistration, AreHeld, IsSound, after_gap, document_in, put_in, put_all, gap_before, may_be_parent, unit_count, node_length, kind_passes, IsPlaceable, ArePlaceable, IsOwnedWell}
+use Rattle.dom_model.specs.Definitions.{hits, among, Entry, HasOneDocument, Node, Forest, empty, node, Grove, IsForest, HasNode, occurs, size, numbers, entry_in, ancestors, children_of, index_of, put, Content, Point, Range, Iterator, Walker, World, IsBoundary, IsRange, IsIterator, IsWalker, IsRegistration, AreHeld, IsSound, after_gap, document_in, put_in, put_all, gap_before, may_be_parent, unit_count, node_length, kind_passes, IsPlaceable, ArePlaceable, IsOwnedWell}
 use Rattle.dom_model.proofs.PlainLists.Numbers.{same_or, same, apart}
-use Rattle.dom_model.proofs.Forests.{Climbing.hits-append, Documents.HasDocument-entry, Documents.adopted-put_same, Entries.HasNode-occurs, Indices.child-parent, Indices.child-once, Indices.child-there, TreeOrder.Flattened.hits-numbers}
+use Rattle.dom_model.proofs.Forests.{Climbing.hits-append, Climbing.hits-not_among, Paths.ancestors-put, Documents.HasDocument-entry, Documents.adopted-put_same, Entries.HasNode-occurs, Indices.child-parent, Indices.child-once, Indices.child-there, TreeOrder.Flattened.hits-numbers}
 use Rattle.dom_model.proofs.RangesAndContents.{PlacesLeft.length_within, RangesElsewhere.ends_of, RangesElsewhere.gap-elsewhere}
-use Rattle.dom_model.proofs.Worlds.Measured.{length-parent}
-use Rattle.dom_model.proofs.Soundness.{SoundForests.parent-passes, SoundWorlds.child_there, SoundPlacing.total_put, SoundPlacing.occurs_placed, SoundPlacing.all_placeable, SoundPlacing.child_placed, SoundPlacing.sound-put_one}
+use Rattle.dom_model.proofs.Worlds.{Measured.length-parent, SameShape.ancestors-alike}
+use Rattle.dom_model.proofs.Soundness.{SoundForests.parent-passes, SoundWorlds.child_there, SoundPlacing.apart_from, SoundPlacing.renamed, SoundPlacing.total_put, SoundPlacing.occurs_placed, SoundPlacing.all_placeable, SoundPlacing.child_placed, SoundPlacing.sound-put_one}
 use Rattle.dom_model.proofs.MutationAlgorithms.{OwnersKept.owned-put_in, PutsAllowed.MayBePut, PutsAllowed.may_be_put}
 use Rattle.dom_ranges.specs.Tables.{FitsMoved, OffsetsFit}
 use Rattle.dom_edit.specs.Insertion.{placed_in, all_placed, with_room, IsOpen}
@@ -71,6 +71,14 @@ module _ (g : Grove Content) (s : IsForest g) (parent n : ℕ) (child : Option �
   pub owned-next : IsOwnedWell g.forest → IsOwnedWell (placed_in parent child n g.forest)
   owned-next h = owned-put_in parent n child (bare g) (sound-bare g s) ready.parent_there one h
 
+  -- the nodes above the parent stay above it
+  pub above-next : ancestors parent (placed_in parent child n g.forest) ≡ ancestors parent g.forest
+  above-next =
+      let far = apart_from parent n child (bare g) (sound-bare g s) ready.parent_there one in
+      ancestors-alike (renamed parent n child (bare g) (sound-bare g s) ready.parent_there one) parent
+      ∙ ancestors-put g.forest s.once parent n child ready.parent_there one.there one.root far parent ready.parent_there
+      ∙ (rw (hits-not_among n (ancestors parent g.forest) one.outside) (append-nil (ancestors parent g.forest)))
+
 pub forest-next : (g : Grove Content) → IsForest g → (parent n : ℕ) (child : Option ℕ) (ns : List ℕ) → IsOpen g.forest parent child (n ∷ ns) → IsForest (record g { forest = placed_in parent child n g.forest })
 forest-next g s parent n None ns ready = (sound-put_one parent n None (bare g) (sound-bare g s) ready.parent_there ready.placeable.0 ready.before_child).forest
 forest-next g s parent n (Some c) ns ready = (sound-put_one parent n (Some c) (bare g) (sound-bare g s) ready.parent_there ready.placeable.0 ready.before_child).forest
@@ -91,6 +99,12 @@ placed-all g s parent child (n ∷ ns) ready owned =
       numbers = λ m. i.numbers m ∙ numbers-next g s parent n child ns ready m;
       owned = i.owned;
     }
+
+pub above-all : (g : Grove Content) → IsForest g → (parent : ℕ) (child : Option ℕ) (ns : List ℕ) → IsOpen g.forest parent child ns → ancestors parent (all_placed parent child ns g.forest) ≡ ancestors parent g.forest
+above-all g s parent child [] ready = refl
+above-all g s parent child (n ∷ ns) ready =
+    let next : Grove Content = record g { forest = placed_in parent child n g.forest } in
+    above-all next (forest-next g s parent n child ns ready) parent child ns (open-next g s parent n child ns ready) ∙ above-next g s parent n child ns ready
 
 -- The steps of the definitions, on the parts that they change.
 

@@ -1,16 +1,18 @@
 -- A node leaves its parent: what follows, and that the world stays whole.
-use Rattle.std.proofs.Common.{◌≡◌, ℕ, ◌<◌, ◌≤◌, Bool, true, false, [], ◌∷◌, Option, Some, None, IfSome, refl, ap, sym, ◌∙◌, subst, ⊎_elim, arith}
+use Rattle.std.proofs.Common.{◌≡◌, ℕ, ◌<◌, ◌≤◌, Bool, true, false, List, [], ◌∷◌, Option, Some, None, IfSome, refl, ap, sym, ◌∙◌, subst, ⊎_elim, arith}
 use Rattle.std.proofs.lemmas.Bool.{cases_lt}
-use Rattle.dom_model.specs.Definitions.{hits, among, HasNode, one_at, occurs, parent_of, previous_of, next_of, index_of, inclusive_descendants, ancestors, cut, HasOneDocument, Observing, IsSound, map_ranges, after_removal, pre_removed_all, taken_out, transients_made, tree_record_unless, removed_from, remove, standing_on, HasOwners, IsOwnedWell}
+use Rattle.dom_model.specs.Definitions.{hits, among, HasNode, one_at, occurs, parent_of, previous_of, next_of, index_of, inclusive_descendants, ancestors, cut, HasOneDocument, Observing, IsSound, map_ranges, after_removal, pre_removed_all, taken_out, transients_made, tree_record_unless, removed_from, remove, standing_on, noted, with_transients, HasOwners, IsOwnedWell}
+use Rattle.dom_model.specs.declared.RecordType.TheVariants.{ChildList}
 use Rattle.dom_model.specs.Worlds.World as model
-use Rattle.dom_model.proofs.Forests.{Climbing.hits-not_among, Entries.HasNode-occurs, Indices.parent-there, Paths.parent-path, Paths.outside-cut, Totals.total-cut, WaysMeeting.above-higher, WaysMeeting.depth-child}
+use Rattle.dom_model.proofs.Forests.{Climbing.hits-not_among, Entries.HasNode-occurs, Indices.parent-there, Paths.parent-path, Paths.ancestors-cut, Totals.total-cut, WaysMeeting.above-higher, WaysMeeting.depth-child}
+use Rattle.dom_model.proofs.BoundaryPoints.RemovalOrder.{up_with-clear}
 use Rattle.dom_model.proofs.Soundness.SoundWorlds.{there_after_cut, statics-kept, sound-remove}
 use Rattle.dom_model.proofs.MutationAlgorithms.OwnersKept.{owned-cut}
 use Rattle.dom_ranges.specs.Tables.{RangeTable, IsCovered}
 use Rattle.dom_observe.specs.{ObservedNodes.NamesHeld, Watchers.Watches}
 use Rattle.dom_observe.proofs.{NamesHeldLemmas.held-kept, WatchesLemmas.watches-unstood, QueueRecordLemmas.standing_on-none}
 use Rattle.dom_edit.specs.{declared.world.World.World, Removal.removal_noted, Whole.CoversHeld, Whole.IsWhole, Whole.Keeps, Whole.Follows, Whole.unwatched}
-use Rattle.dom_edit.proofs.{FollowsLemmas.keeps-unwatched, FollowsLemmas.whole-sound, CoversHeldLemmas.covered-kept, TreeRecordLemmas.tree_mutation}
+use Rattle.dom_edit.proofs.{FollowsLemmas.keeps-unwatched, FollowsLemmas.follows-then, FollowsLemmas.whole-sound, InsertLemmas.follows-as, CoversHeldLemmas.covered-kept, TreeRecordLemmas.tree_mutation}
 pub use Rattle.dom_edit.proofs.FollowsLemmas.{sound-unwatched}
 
 -- what holds of what is there
@@ -75,19 +77,28 @@ whole-taken v new n p h e f covered observers =
     (subst (NamesHeld new.tree.forest) (sym observers)
     (held-kept v.tree.forest new.tree.forest v.observers (λ m there. subst (λ g. HasNode g m) k.forest (there_after_cut v.tree.forest n m there)) h.observers))
 
--- a node that left its parent is not above it any more, as it never was
-pub left-apart : (v new : World) (n p : ℕ) → IsWhole v → parent_of v.tree.forest n ≡ Some p → Follows v new (taken_out n p) → among n (ancestors p new.tree.forest) ≡ false
-left-apart v new n p h e f =
+-- a node is not above its parent
+pub not-above : (v : World) (n p : ℕ) → IsWhole v → parent_of v.tree.forest n ≡ Some p → hits n (ancestors p v.tree.forest) ≡ 0
+not-above v n p h e =
     let g = v.tree.forest in
     let o = h.forest.once in
     let there = parent-there g n p e in
     let above = (parent-path g o n p there e).0 in
-    let none : hits n (ancestors p g) ≡ 0 =
     ⊎_elim
     (λ (lt : 0 < hits n (ancestors p g)). absurd (omega (arith, above-higher g o n p above lt, depth-child g o n p there e)))
     (λ (le : hits n (ancestors p g) ≤ 0). omega arith)
-    (cases_lt 0 (hits n (ancestors p g))) in
-    subst (λ t. among n (ancestors p t) ≡ false) (f.keeps (unwatched v) (keeps-unwatched v)).forest (outside-cut g o n p (hits-not_among n (ancestors p g) none))
+    (cases_lt 0 (hits n (ancestors p g)))
+
+pub parent-apart : (v : World) (n p : ℕ) → IsWhole v → parent_of v.tree.forest n ≡ Some p → among n (ancestors p v.tree.forest) ≡ false
+parent-apart v n p h e = hits-not_among n (ancestors p v.tree.forest) (not-above v n p h e)
+
+-- so the nodes above a parent stay above it if its child is removed
+pub above-cut : (v : World) (n p : ℕ) → IsWhole v → parent_of v.tree.forest n ≡ Some p → ancestors p (cut n v.tree.forest) ≡ ancestors p v.tree.forest
+above-cut v n p h e =
+    let g = v.tree.forest in
+    let o = h.forest.once in
+    let there = parent-there g n p e in
+    ancestors-cut g o n p (parent-path g o n p there e).0 ∙ up_with-clear g o p n there e (ancestors p g) (not-above v n p h e)
 
 -- Transient registrations.
 
@@ -122,27 +133,44 @@ after-removal a n p suppressed w e k =
     sym (ap (λ q. removed_from suppressed n q w) (ap (λ f. parent_of f n) k.forest ∙ e)
     ∙ ap (λ f. tree_record_unless suppressed p [] (n ∷ []) (previous_of f n) (next_of f n) (transients_made n p (taken_out n p w))) k.forest)
 
-pub follows-removed : (a b c d : World) (n p : ℕ) (suppressed : Bool) → parent_of a.tree.forest n ≡ Some p → Follows a b (taken_out n p) → Follows b c (transients_made n p)
-    → Follows c d (tree_record_unless suppressed p [] (n ∷ []) (previous_of a.tree.forest n) (next_of a.tree.forest n)) → Follows a d (remove suppressed n)
-follows-removed a b c d n p suppressed e taken made noted = record {
-  keeps = λ w k.
-      subst (λ u. Keeps d u) (after-removal a n p suppressed w e k)
-      (noted.keeps (transients_made n p (taken_out n p w)) (made.keeps (taken_out n p w) (taken.keeps w k)));
-  watches = λ w k o.
-      subst (λ (u : model.World). Watches d.observers u.observing) (after-removal a n p suppressed w e k)
-      (noted.watches (transients_made n p (taken_out n p w)) (made.keeps (taken_out n p w) (taken.keeps w k))
-      (made.watches (taken_out n p w) (taken.keeps w k) (taken.watches w k o)));
+-- The order of both steps does not matter: what is noted is about the nodes above the parent, which stay.
+
+-- transient registrations with these nodes above the parent
+abbrev with-transients : List ℕ → ℕ → ℕ → model.World → model.World
+with-transients above n p w = record (taken_out n p w) { observing = with_transients n above w.observing }
+
+-- and then a record
+abbrev with-record : List ℕ → ℕ → ℕ → Option ℕ → Option ℕ → model.World → model.World
+with-record above n p previous next w = record (taken_out n p w) {
+  observing = noted (record {
+    type = ChildList;
+    target = p;
+    name = None;
+    old_value = None;
+    added = [];
+    removed = n ∷ [];
+    previous = previous;
+    next = next;
+    standing = standing_on above (with_transients n above w.observing).registrations;
+  }) (with_transients n above w.observing);
 }
 
--- the same, with the record at once
-pub follows-noted : (a b d : World) (n p : ℕ) → parent_of a.tree.forest n ≡ Some p → Follows a b (taken_out n p)
-    → Follows b d (removal_noted n p (previous_of a.tree.forest n) (next_of a.tree.forest n)) → Follows a d (remove false n)
-follows-noted a b d n p e taken noted = record {
-  keeps = λ w k. subst (λ u. Keeps d u) (after-removal a n p false w e k) (noted.keeps (taken_out n p w) (taken.keeps w k));
-  watches = λ w k o.
-      subst (λ (u : model.World). Watches d.observers u.observing) (after-removal a n p false w e k)
-      (noted.watches (taken_out n p w) (taken.keeps w k) (taken.watches w k o));
-}
+above-kept : (a : World) (n p : ℕ) (w : model.World) → IsWhole a → parent_of a.tree.forest n ≡ Some p → Keeps a w → ancestors p (cut n w.forest) ≡ ancestors p w.forest
+above-kept a n p w h e k = subst (λ f. ancestors p (cut n f) ≡ ancestors p f) (sym k.forest) (above-cut a n p h e)
+
+pub follows-suppressed : (a b d : World) (n p : ℕ) → IsWhole a → parent_of a.tree.forest n ≡ Some p → Follows a b (transients_made n p) → Follows b d (taken_out n p) → Follows a d (remove true n)
+follows-suppressed a b d n p h e made taken =
+    follows-as a d (λ w. taken_out n p (transients_made n p w)) (remove true n)
+    (λ w k. sym (after-removal a n p true w e k) ∙ ap (λ above. with-transients above n p w) (above-kept a n p w h e k))
+    (follows-then a b d (transients_made n p) (taken_out n p) made taken)
+
+-- the same, with a record
+pub follows-noted : (a b d : World) (n p : ℕ) → IsWhole a → parent_of a.tree.forest n ≡ Some p → Follows a b (removal_noted n p (previous_of a.tree.forest n) (next_of a.tree.forest n))
+    → Follows b d (taken_out n p) → Follows a d (remove false n)
+follows-noted a b d n p h e noted taken =
+    follows-as a d (λ w. taken_out n p (removal_noted n p (previous_of a.tree.forest n) (next_of a.tree.forest n) w)) (remove false n)
+    (λ w k. sym (after-removal a n p false w e k) ∙ ap (λ above. with-record above n p (previous_of a.tree.forest n) (next_of a.tree.forest n) w) (above-kept a n p w h e k))
+    (follows-then a b d (removal_noted n p (previous_of a.tree.forest n) (next_of a.tree.forest n)) (taken_out n p) noted taken)
 
 -- a node that is held is so after it left its parent
 pub held-taken : (v new : World) (n p m : ℕ) → Follows v new (taken_out n p) → HasNode v.tree.forest m → HasNode new.tree.forest m

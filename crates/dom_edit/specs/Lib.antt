@@ -1,4 +1,3 @@
-pub mod Payloads
 pub mod InsertionPoints
 pub mod Whole
 pub mod KeptNodes

@@ -30,6 +30,10 @@ pub record IsWhole (v : World) : Type 0 where
   pub walkers : All (λ (k : Option Walker). IfSome k (IsWalker v.tree.forest)) v.walkers
   pub observers : NamesHeld v.tree.forest v.observers
 
+-- nobody observes a node
+abbrev pub IsUnobserved : World → Type 0
+IsUnobserved v = v.observers.nodes ≡ []
+
 -- all parts but those that watch are the world's
 pub record Keeps (v : World) (w : model.World) : Type 0 where
   pub forest : w.forest ≡ v.tree.forest

@@ -4,7 +4,7 @@ ghost use Rattle.std.specs.Prelude.{◌≡◌, Some};
 ghost use Rattle.std.specs.Option.{ForSome};
 ghost use Rattle.dom_model.specs.Forests.Forest.{HasNode, parent_of};
 
-use crate::content::Content;
+use dom_payload::Content;
 use crate::world::World;
 use dom_kinds::Kind;
 use dom_tree::{NodeId, Tree};

@@ -2,7 +2,7 @@
 //!
 //! Each adjusts live ranges, moves iterators, adds transient registrations and queues its records, as the standard says.
 
-ghost use Rattle.std.specs.Prelude.{◌≡◌, [], ◌∷◌, true, false, None, OnOk};
+ghost use Rattle.std.specs.Prelude.{◌≡◌, [], ◌∷◌, true, false, None, OnOk, OnErr};
 ghost use Rattle.std.specs.Option.{ForSome};
 ghost use Rattle.std.specs.Result.{IfErr};
 ghost use Rattle.dom_model.specs.declared.Kind.TheVariants.{Document};
@@ -14,7 +14,7 @@ ghost use Rattle.dom_model.specs.MutationAlgorithms.Editing.{remove, insert, pre
 ghost use Rattle.dom_model.specs.MutationAlgorithms.Insertable.{IsInsertable};
 ghost use Rattle.dom_model.specs.TokenText.Edits.{insert_edits, pre_insert_edits, append_edits, replace_edits, remove_edits, replace_all_edits, adopt_edits};
 ghost use Rattle.dom_edit.specs.Insertion.{IsUnreferred, HasMoreToAsk};
-ghost use Rattle.dom_edit.specs.Whole.{IsWhole, Follows, Moves};
+ghost use Rattle.dom_edit.specs.Whole.{IsWhole, IsUnobserved, Follows};
 ghost use Rattle.dom_edit.specs.KeptNodes.{KeepsNodes};
 ghost use Rattle.dom_edit.specs.OlderNodes.{LeavesOlder, IsFragmentOrRoot};
 ghost use Rattle.dom_edit.specs.Markers.{StandByEdits};
@@ -51,6 +51,7 @@ impl World {
             (pre_insert_edits node parent child)) }
         ensures refused { IfErr result (λ e. IsRefused e
             (check_insert self.old.tree.forest parent node child) self.old self.new) }
+        ensures unchanged { IsUnobserved self.old → OnErr result (self.new ≡ self.old) }
         ensures kept { KeepsNodes self.old self.new }
         ensures whole { IsWhole self.new }
     {
@@ -78,6 +79,7 @@ impl World {
             (pre_insert_edits node parent child)) }
         ensures refused { IfErr result (λ e. IsRefused e
             (check_insert self.old.tree.forest parent node child) self.old self.new) }
+        ensures unchanged { IsUnobserved self.old → OnErr result (self.new ≡ self.old) }
         ensures kept { KeepsNodes self.old self.new }
         ensures whole { IsWhole self.new }
     {
@@ -104,6 +106,7 @@ impl World {
         ensures inserted { OnOk result (Follows self.old self.new (pre_insert node parent child)) }
         ensures markers { OnOk result (StandByEdits self.old self.new
             (pre_insert_edits node parent child)) }
+        ensures unchanged { IsUnobserved self.old → OnErr result (self.new ≡ self.old) }
         ensures kept { KeepsNodes self.old self.new }
         ensures whole { IsWhole self.new }
     {
@@ -127,6 +130,7 @@ impl World {
             (insert false node parent child)) }
         ensures markers { OnOk result (StandByEdits self.old self.new
             (insert_edits node parent child)) }
+        ensures unchanged { IsUnobserved self.old → OnErr result (self.new ≡ self.old) }
         ensures kept { KeepsNodes self.old self.new }
         ensures whole { IsWhole self.new }
     {
@@ -174,6 +178,7 @@ impl World {
         ensures markers { OnOk result (StandByEdits self.old self.new (append_edits node parent)) }
         ensures refused { IfErr result (λ e. IsRefused e
             (check_insert self.old.tree.forest parent node None) self.old self.new) }
+        ensures unchanged { IsUnobserved self.old → OnErr result (self.new ≡ self.old) }
         ensures kept { KeepsNodes self.old self.new }
         ensures whole { IsWhole self.new }
     {
@@ -224,6 +229,7 @@ impl World {
             (replace_edits child node parent)) }
         ensures refused { IfErr result (λ e. IsRefused e
             (check_replace self.old.tree.forest parent node child) self.old self.new) }
+        ensures unchanged { IsUnobserved self.old → OnErr result (self.new ≡ self.old) }
         ensures kept { KeepsNodes self.old self.new }
         ensures whole { IsWhole self.new }
     {
@@ -250,6 +256,7 @@ impl World {
             (replace_edits child node parent)) }
         ensures refused { IfErr result (λ e. IsRefused e
             (check_replace self.old.tree.forest parent node child) self.old self.new) }
+        ensures unchanged { IsUnobserved self.old → OnErr result (self.new ≡ self.old) }
         ensures kept { KeepsNodes self.old self.new }
         ensures whole { IsWhole self.new }
     {
@@ -277,10 +284,11 @@ impl World {
             ≡ None) }
         ensures removed { OnOk result (Follows self.old self.new (remove false child)) }
         ensures markers { OnOk result (StandByEdits self.old self.new (remove_edits child)) }
-        ensures moved { check_remove_child self.old.tree.forest parent child ≡ None →
-            Moves self.old self.new (remove false child) }
+        ensures stays { OnErr result (self.new ≡ record self.old
+            { observers = self.new.observers }) }
         ensures refused { IfErr result (λ e. IsRefused e
             (check_remove_child self.old.tree.forest parent child) self.old self.new) }
+        ensures unchanged { IsUnobserved self.old → OnErr result (self.new ≡ self.old) }
         ensures kept { KeepsNodes self.old self.new }
         ensures whole { IsWhole self.new }
     {
@@ -293,13 +301,15 @@ impl World {
 
     /// Removes a node from its parent; a root stays as it is (remove).
     ///
-    /// Takes memory for observers alone. After an error the node has been removed, and some observers may not be notified.
+    /// Takes memory for observers alone. After an error the node is where it was, and some observers may have a record of its removal.
     pub fn remove(&mut self, node: NodeId) -> Result<(), AllocError>
         requires whole { IsWhole self.old }
         requires held { HasNode self.old.tree.forest node }
         ensures removed { OnOk result (Follows self.old self.new (remove false node)) }
-        ensures moved { Moves self.old self.new (remove false node) }
+        ensures stays { OnErr result (self.new ≡ record self.old
+            { observers = self.new.observers }) }
         ensures markers { OnOk result (StandByEdits self.old self.new (remove_edits node)) }
+        ensures unchanged { IsUnobserved self.old → OnErr result (self.new ≡ self.old) }
         ensures kept { KeepsNodes self.old self.new }
         ensures whole { IsWhole self.new }
     {
@@ -325,6 +335,7 @@ impl World {
             (replace_all_edits node parent)) }
         ensures refused { IfErr result (λ e. IsRefused e
             (check_only_child self.old.tree.forest parent node) self.old self.new) }
+        ensures unchanged { IsUnobserved self.old → OnErr result (self.new ≡ self.old) }
         ensures kept { KeepsNodes self.old self.new }
         ensures whole { IsWhole self.new }
     {
@@ -351,6 +362,7 @@ impl World {
         ensures replaced { OnOk result (Follows self.old self.new (replace_all node parent)) }
         ensures markers { OnOk result (StandByEdits self.old self.new
             (replace_all_edits node parent)) }
+        ensures unchanged { IsUnobserved self.old → OnErr result (self.new ≡ self.old) }
         ensures kept { KeepsNodes self.old self.new }
         ensures whole { IsWhole self.new }
     {
@@ -377,6 +389,7 @@ impl World {
         ensures markers { OnOk result (StandByEdits self.old self.new (adopt_edits node)) }
         ensures refused { IfErr result (λ e. IsRefused e (check_adopt self.old.tree.forest node)
             self.old self.new) }
+        ensures unchanged { IsUnobserved self.old → OnErr result (self.new ≡ self.old) }
         ensures kept { KeepsNodes self.old self.new }
         ensures whole { IsWhole self.new }
     {

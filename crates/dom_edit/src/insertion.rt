@@ -1,6 +1,6 @@
 //! Inserting nodes, wherever they are now (DOM Standard, "Mutation algorithms", insert).
 
-ghost use Rattle.std.specs.Prelude.{◌≡◌, [], ◌∷◌, None, IfOk, OnOk, true, false};
+ghost use Rattle.std.specs.Prelude.{◌≡◌, [], ◌∷◌, None, IfOk, IsOk, OnOk, OnErr, true, false};
 ghost use Rattle.dom_model.specs.declared.Kind.TheVariants.{DocumentFragment};
 ghost use Rattle.dom_model.specs.Forests.Forest.{HasNode, parent_of, children_of, ancestors};
 ghost use Rattle.dom_model.specs.Forests.Nodes.{is_of_kind};
@@ -8,11 +8,11 @@ ghost use Rattle.dom_model.specs.MutationAlgorithms.Editing.{tree_record, remove
 ghost use Rattle.dom_model.specs.MutationAlgorithms.Insertable.{IsInsertable};
 ghost use Rattle.dom_observe.specs.ObservedNodes.{NamesNoneOf};
 ghost use Rattle.dom_edit.specs.Insertion.{AreThere, IsUnreferred, ComesIn, brought, IsOpen};
-ghost use Rattle.dom_edit.specs.Whole.{IsWhole, Follows};
+ghost use Rattle.dom_edit.specs.Whole.{IsWhole, IsUnobserved, Follows};
 ghost use Rattle.dom_edit.specs.KeptNodes.{KeepsNodes};
 ghost use Rattle.dom_edit.specs.OlderNodes.{LeavesOlder, IsFragmentOrRoot};
 
-use crate::content::Content;
+use dom_payload::Content;
 use crate::world::World;
 use dom_kinds::Kind;
 use dom_tree::{NodeId, Tree};
@@ -86,6 +86,8 @@ impl World {
         requires whole { IsWhole self.old }
         requires held { AreThere self.old.tree.forest nodes.now }
         ensures removed { OnOk result (Follows self.old self.new (remove_all nodes.now)) }
+        ensures succeeds { IsUnobserved self.old → IsOk result }
+        ensures unobserved { IsUnobserved self.old → self.new.observers ≡ self.old.observers }
         ensures kept { KeepsNodes self.old self.new }
         ensures whole { IsWhole self.new }
     {
@@ -120,6 +122,8 @@ impl World {
             (tree_record node [] nodes.now None None)) }
         ensures quiet { NamesNoneOf (ancestors node self.old.tree.forest) self.old.observers →
             self.new ≡ self.old }
+        ensures succeeds { IsUnobserved self.old → IsOk result }
+        ensures unobserved { IsUnobserved self.old → self.new ≡ self.old }
         ensures kept { KeepsNodes self.old self.new }
         ensures whole { IsWhole self.new }
     {
@@ -139,6 +143,10 @@ impl World {
         requires ready { IsOpen self.old.tree.forest parent child nodes.now }
         ensures inserted { OnOk result (Follows self.old self.new
             (insert_all suppressed parent child nodes.now)) }
+        ensures stays { OnErr result (self.new ≡ record self.old
+            { observers = self.new.observers }) }
+        ensures succeeds { IsUnobserved self.old → IsOk result }
+        ensures unobserved { IsUnobserved self.old → self.new.observers ≡ self.old.observers }
         ensures left { child ≡ None → LeavesOlder (parent ∷ nodes.now) self.old self.new }
         ensures kept { KeepsNodes self.old self.new }
         ensures whole { IsWhole self.new }
@@ -151,24 +159,27 @@ impl World {
         let before = child;
         let after = child;
         let previous = previous_to(&self.tree, parent, before);
+        self.queue_tree_record(parent, nodes, &[], previous, child)?;
         self.place(parent, after, nodes);
-        self.queue_tree_record(parent, nodes, &[], previous, child)
+        Ok(())
     }
 
     // Reserves room for blocks of a parent's children, if there are many. The world's value stays.
-    fn reserve_child(&mut self, parent: NodeId) -> Result<(), AllocError>
+    //
+    // Without memory for blocks, an index among the children is found by a longer walk.
+    fn reserve_child(&mut self, parent: NodeId)
         requires { HasNode self.old.tree.forest parent }
         ensures { self.new ≡ self.old }
     {
-        self.tree.reserve_blocks(parent)
+        let _ = self.tree.reserve_blocks(parent);
     }
 
-    // The same for so many children more.
-    fn reserve_children(&mut self, parent: NodeId, more: usize) -> Result<(), AllocError>
+    // Does so for `more` children.
+    fn reserve_children(&mut self, parent: NodeId, more: usize)
         requires { HasNode self.old.tree.forest parent }
         ensures { self.new ≡ self.old }
     {
-        self.tree.reserve_blocks_for(parent, more)
+        let _ = self.tree.reserve_blocks_for(parent, more);
     }
 
     /// Inserts a node that is no fragment under a parent, before a child of it or last.
@@ -185,12 +196,14 @@ impl World {
         requires alone { is_of_kind DocumentFragment self.old.tree.forest node ≡ false }
         ensures inserted { OnOk result (Follows self.old self.new
             (insert suppressed node parent child)) }
+        ensures succeeds { IsUnobserved self.old → IsOk result }
+        ensures unobserved { IsUnobserved self.old → self.new.observers ≡ self.old.observers }
         ensures left { child ≡ None → parent_of self.old.tree.forest node ≡ None →
             LeavesOlder (parent ∷ node ∷ []) self.old self.new }
         ensures kept { KeepsNodes self.old self.new }
         ensures whole { IsWhole self.new }
     {
-        self.reserve_child(parent)?;
+        self.reserve_child(parent);
         self.remove_node(node, false)?;
         self.insert_all(suppressed, parent, child, &[node])
     }
@@ -210,13 +223,15 @@ impl World {
         requires nodes { nodes.now ≡ children_of self.old.tree.forest node }
         ensures inserted { OnOk result (Follows self.old self.new
             (insert suppressed node parent child)) }
+        ensures succeeds { IsUnobserved self.old → IsOk result }
+        ensures unobserved { IsUnobserved self.old → self.new.observers ≡ self.old.observers }
         ensures kept { KeepsNodes self.old self.new }
         ensures whole { IsWhole self.new }
     {
         if nodes.is_empty() {
             return Ok(());
         }
-        self.reserve_children(parent, nodes.len())?;
+        self.reserve_children(parent, nodes.len());
         self.remove_all(nodes)?;
         self.queue_emptied(node, nodes)?;
         self.insert_all(suppressed, parent, child, nodes)
@@ -244,7 +259,7 @@ impl World {
         if nodes.is_empty() {
             return Ok(());
         }
-        self.reserve_children(parent, nodes.len())?;
+        self.reserve_children(parent, nodes.len());
         self.remove_all_unreferred(node, nodes)?;
         self.queue_emptied(node, nodes)?;
         self.insert_all(false, parent, child, nodes)
@@ -264,6 +279,8 @@ impl World {
         requires incoming { ComesIn self.old.tree.forest node incoming.now }
         ensures inserted { OnOk result (Follows self.old self.new
             (insert suppressed node parent child)) }
+        ensures succeeds { IsUnobserved self.old → IsOk result }
+        ensures unobserved { IsUnobserved self.old → self.new.observers ≡ self.old.observers }
         ensures kept { KeepsNodes self.old self.new }
         ensures whole { IsWhole self.new }
     {

@@ -2,7 +2,6 @@
 #![tactic(auto)]
 
 mod check_cache;
-mod content;
 mod discard;
 mod edits;
 mod insertion;
@@ -13,11 +12,10 @@ mod refusal;
 mod removal;
 mod replacement;
 mod root_insertion;
-mod tail;
 mod tree_records;
 mod world;
 
-pub use content::Content;
+pub use dom_payload::Content;
 pub use pre_insertion::{check_insert, check_replace};
 pub use queries::{data_in, document_in, reference_child};
 pub use refusal::Refusal;

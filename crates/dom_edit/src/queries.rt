@@ -9,7 +9,7 @@ ghost use Rattle.dom_model.specs.DataAndCopies.Data.{content_in};
 ghost use Rattle.dom_model.specs.Soundness.Owners.{HasOwners};
 ghost use Rattle.dom_edit.specs.Insertion.{reference_in};
 
-use crate::content::Content;
+use dom_payload::Content;
 use dom_tree::{NodeId, Tree};
 
 /// Returns the reference child of an insertion: the child, or the node's next sibling if the child is the node itself; none to append.

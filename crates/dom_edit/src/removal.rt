@@ -1,13 +1,13 @@
 //! Removing a node from its parent (DOM Standard, "Mutation algorithms", remove).
 
-ghost use Rattle.std.specs.Prelude.{◌≡◌, [], ◌∷◌, true, false, Some, None, OnOk, IfSome, MatchOption};
+ghost use Rattle.std.specs.Prelude.{◌≡◌, [], ◌∷◌, true, false, Some, None, OnOk, OnErr, IsOk, IfSome, MatchOption};
 ghost use Rattle.std.specs.Option.{ForSome};
 ghost use Rattle.dom_model.specs.PlainLists.Lists.{among};
 ghost use Rattle.dom_model.specs.Forests.Forest.{HasNode, parent_of, ancestors, cut};
 ghost use Rattle.dom_model.specs.MutationAlgorithms.PreRemoval.{pre_removed_all};
 ghost use Rattle.dom_model.specs.MutationAlgorithms.Editing.{taken_out, transients_made, remove};
 ghost use Rattle.dom_edit.specs.Insertion.{IsUnreferred};
-ghost use Rattle.dom_edit.specs.Whole.{IsWhole, Follows, Moves};
+ghost use Rattle.dom_edit.specs.Whole.{IsWhole, IsUnobserved, Follows};
 ghost use Rattle.dom_edit.specs.KeptNodes.{KeepsNodes};
 ghost use Rattle.dom_edit.specs.OlderNodes.{LeavesOlder};
 ghost use Rattle.dom_edit.specs.Removal.{removal_noted};
@@ -15,7 +15,7 @@ ghost use Rattle.dom_edit.specs.ChildPositions.{IsSeat};
 ghost use Rattle.dom_observe.specs.ObservedNodes.{NamesNoneOf, SameObservers};
 ghost use Rattle.dom_tree.specs.Spots.{node_at};
 
-use crate::content::Content;
+use dom_payload::Content;
 use crate::world::World;
 use dom_model::RecordType;
 use dom_observe::Mutation;
@@ -88,6 +88,7 @@ impl World {
         requires child { parent_of self.old.tree.forest node ≡ Some parent }
         ensures taken { IfSome (parent_of self.old.tree.forest node) (λ parent.
             Follows self.old self.new (taken_out node parent)) }
+        ensures observers { self.new.observers ≡ self.old.observers }
         ensures kept { KeepsNodes self.old self.new }
         ensures whole { IsWhole self.new }
     {
@@ -105,6 +106,8 @@ impl World {
         ensures observers { SameObservers self.old.observers self.new.observers }
         ensures quiet { NamesNoneOf (ancestors parent self.old.tree.forest) self.old.observers →
             self.new ≡ self.old }
+        ensures succeeds { IsUnobserved self.old → IsOk result }
+        ensures unobserved { IsUnobserved self.old → self.new ≡ self.old }
         ensures whole { IsWhole self.new }
     {
         if self.observers.is_idle() {
@@ -131,8 +134,13 @@ impl World {
             (removal_noted node parent previous next)) }
         ensures parts { self.new ≡ record self.old { observers = self.new.observers } }
         ensures observers { SameObservers self.old.observers self.new.observers }
+        ensures succeeds { IsUnobserved self.old → IsOk result }
+        ensures unobserved { IsUnobserved self.old → self.new ≡ self.old }
         ensures whole { IsWhole self.new }
     {
+        if self.observers.is_idle() {
+            return Ok(());
+        }
         let mutation = Mutation {
             what: RecordType::ChildList,
             target: parent,
@@ -151,8 +159,11 @@ impl World {
         requires whole { IsWhole self.old }
         requires held { HasNode self.old.tree.forest node }
         ensures removed { OnOk result (Follows self.old self.new (remove suppressed node)) }
-        ensures moved { Moves self.old self.new (remove suppressed node) }
         ensures root { parent_of self.old.tree.forest node ≡ None → self.new ≡ self.old }
+        ensures stays { OnErr result (self.new ≡ record self.old
+            { observers = self.new.observers }) }
+        ensures succeeds { IsUnobserved self.old → IsOk result }
+        ensures unobserved { IsUnobserved self.old → self.new.observers ≡ self.old.observers }
         ensures kept { KeepsNodes self.old self.new }
         ensures whole { IsWhole self.new }
     {
@@ -162,11 +173,14 @@ impl World {
         let parent = seat.parent;
         let previous = seat.previous;
         let next = seat.next;
-        self.take_out(parent, node);
         if suppressed {
-            return self.make_transients(parent, node);
+            self.make_transients(parent, node)?;
+            self.take_out(parent, node);
+            return Ok(());
         }
-        self.note_removal(parent, node, previous, next)
+        self.note_removal(parent, node, previous, next)?;
+        self.take_out(parent, node);
+        Ok(())
     }
 
     /// Removes a child from a parent that has no live range end inside, without a record.
@@ -184,7 +198,8 @@ impl World {
         ensures kept { KeepsNodes self.old self.new }
         ensures whole { IsWhole self.new }
     {
+        self.make_transients(parent, node)?;
         self.cut_out(parent, node);
-        self.make_transients(parent, node)
+        Ok(())
     }
 }

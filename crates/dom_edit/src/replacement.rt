@@ -1,16 +1,16 @@
 //! Inserting nodes in the place of others (DOM Standard, "Mutation algorithms", pre-insert, replace, replace all).
 
-ghost use Rattle.std.specs.Prelude.{◌≡◌, Some, None, MatchResult, IfOk, OnOk, true};
+ghost use Rattle.std.specs.Prelude.{◌≡◌, Some, None, MatchResult, IfOk, IsOk, OnOk, true};
 ghost use Rattle.std.specs.Option.{ForSome};
 ghost use Rattle.dom_model.specs.Forests.Forest.{HasNode};
 ghost use Rattle.dom_model.specs.MutationAlgorithms.Editing.{insert_if_any, replaced_record};
 ghost use Rattle.dom_model.specs.MutationAlgorithms.Insertable.{IsInsertable};
 ghost use Rattle.dom_edit.specs.Insertion.{AreThere, ComesIn, brought_if_any};
 ghost use Rattle.dom_edit.specs.Refusals.{check_only_child};
-ghost use Rattle.dom_edit.specs.Whole.{IsWhole, Follows};
+ghost use Rattle.dom_edit.specs.Whole.{IsWhole, IsUnobserved, Follows};
 ghost use Rattle.dom_edit.specs.KeptNodes.{KeepsNodes};
 
-use crate::content::Content;
+use dom_payload::Content;
 use crate::insertion::{Incoming, entering};
 use crate::pre_insertion::check_insert;
 use crate::world::World;
@@ -74,6 +74,8 @@ impl World {
         requires incoming { ForSome node (λ n.
             ComesIn self.old.tree.forest n incoming.now) }
         ensures inserted { OnOk result (Follows self.old self.new (insert_if_any node parent)) }
+        ensures succeeds { IsUnobserved self.old → IsOk result }
+        ensures unobserved { IsUnobserved self.old → self.new.observers ≡ self.old.observers }
         ensures kept { KeepsNodes self.old self.new }
         ensures whole { IsWhole self.new }
     {
@@ -96,6 +98,7 @@ impl World {
         requires removed { AreThere self.old.tree.forest removed.now }
         ensures queued { OnOk result (Follows self.old self.new
             (replaced_record parent added.now removed.now)) }
+        ensures succeeds { IsUnobserved self.old → IsOk result }
         ensures kept { KeepsNodes self.old self.new }
         ensures whole { IsWhole self.new }
     {

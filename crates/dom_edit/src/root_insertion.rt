@@ -9,7 +9,7 @@ ghost use Rattle.dom_edit.specs.KeptNodes.{KeepsNodes};
 ghost use Rattle.dom_edit.specs.OlderNodes.{LeavesOlder};
 ghost use Rattle.std.specs.Prelude.{Some, None, [], ◌∷◌};
 
-use crate::content::Content;
+use dom_payload::Content;
 use crate::world::World;
 use dom_tree::{NodeId, Tree};
 
@@ -76,6 +76,7 @@ impl World {
         requires ready { IsOpen self.old.tree.forest parent child nodes.now }
         ensures placed { Follows self.old self.new (λ w.
             put_all parent child nodes.now (gap_before parent child (length nodes.now) w)) }
+        ensures observers { self.new.observers ≡ self.old.observers }
         ensures left { child ≡ None → LeavesOlder (parent ∷ nodes.now) self.old self.new }
         ensures kept { KeepsNodes self.old self.new }
         ensures whole { IsWhole self.new }

@@ -1,12 +1,12 @@
 //! Tree records (DOM Standard, "Mutation observers", queue a tree mutation record).
 
-ghost use Rattle.std.specs.Prelude.{◌≡◌, OnOk};
+ghost use Rattle.std.specs.Prelude.{◌≡◌, OnOk, IsOk};
 ghost use Rattle.std.specs.Option.{ForSome};
 ghost use Rattle.dom_model.specs.Forests.Forest.{HasNode, ancestors};
 ghost use Rattle.dom_model.specs.MutationAlgorithms.Editing.{tree_record};
 ghost use Rattle.dom_observe.specs.ObservedNodes.{NamesNoneOf, SameObservers};
 ghost use Rattle.dom_edit.specs.Insertion.{AreThere};
-ghost use Rattle.dom_edit.specs.Whole.{IsWhole, Follows};
+ghost use Rattle.dom_edit.specs.Whole.{IsWhole, IsUnobserved, Follows};
 
 use crate::world::World;
 use dom_model::RecordType;
@@ -38,8 +38,13 @@ impl World {
         ensures observers { SameObservers self.old.observers self.new.observers }
         ensures quiet { NamesNoneOf (ancestors target self.old.tree.forest) self.old.observers →
             self.new ≡ self.old }
+        ensures succeeds { IsUnobserved self.old → IsOk result }
+        ensures unobserved { IsUnobserved self.old → self.new ≡ self.old }
         ensures whole { IsWhole self.new }
     {
+        if self.observers.is_idle() {
+            return Ok(());
+        }
         let mutation = Mutation {
             what: RecordType::ChildList,
             target,

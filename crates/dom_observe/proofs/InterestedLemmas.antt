@@ -1,5 +1,5 @@
 -- Listeners, one after another, and the pending list.
-use Rattle.std.proofs.Common.{◌≡◌, ℕ, zero, suc, ◌==◌, Bool, true, false, ◌||◌, if◌then◌else◌, List, [], ◌∷◌, ◌++◌, map, filter, take, Option, None, Some, refl, ap, sym, ◌∙◌, subst, cond, append-nil, nat_eq, unwrap_or, slice_get, filter_map, option_to_list}
+use Rattle.std.proofs.Common.{◌≡◌, ◌≢◌, is_some, IsSome, ℕ, zero, suc, ◌==◌, Bool, true, false, ◌||◌, if◌then◌else◌, List, [], ◌∷◌, ◌++◌, map, filter, take, Option, None, Some, refl, ap, sym, ◌∙◌, subst, cond, append-nil, nat_eq, unwrap_or, slice_get, filter_map, option_to_list}
 use Rattle.std.specs.{Map.lookup, Map.keys_of, Option.option_and_then, List.AllByRecursion, List.IsDistinct, List.list_any, List.cons_option}
 use Rattle.std.proofs.lemmas.{List.Folds.list_any-append, List.Elements.filter-append, Bool.true≢false}
 use Rattle.indexmap.specs.{IndexSet.insert_key, IndexMap.insert_entry}
@@ -97,6 +97,19 @@ there-last there n ns h held_there = go (among n ns)
 pub all_last-append : (ns ms : List ℕ) (m : ℕ) → with_all_last ns (ms ++ m ∷ []) ≡ with_last (with_all_last ns ms) m
 all_last-append ns [] m = refl
 all_last-append ns (k ∷ ms) m = all_last-append (with_last ns k) ms m
+
+-- those who come last one after another, as a whole and one by one
+pub all_last-twice : (ns qs ms : List ℕ) → with_all_last ns (with_all_last qs ms) ≡ with_all_last (with_all_last ns qs) ms
+all_last-twice ns qs [] = refl
+all_last-twice ns qs (m ∷ ms) = all_last-twice ns (with_last qs m) ms ∙ ap (λ ks. with_all_last ks ms) (go (among m qs) refl)
+  where
+    go : (b : Bool) → among m qs ≡ b → with_all_last ns (if b then qs else qs ++ m ∷ []) ≡ with_last (with_all_last ns qs) m
+    go true e = sym (ap (λ b. if b then with_all_last ns qs else with_all_last ns qs ++ m ∷ []) (all_last-there m ns qs e))
+    go false e = all_last-append ns qs m
+
+pub there-all_last : (there : ℕ → Bool) (ns ms : List ℕ) → AllThere there ns → AllThere there ms → AllThere there (with_all_last ns ms)
+there-all_last there ns [] h k = h
+there-all_last there ns (m ∷ ms) h k = there-all_last there (with_last ns m) ms (there-last there m ns h k.0) k.1
 
 pub keys_of-append : {A : Type 0} (xs : List (ℕ × A)) (y : ℕ × A) → keys_of (xs ++ y ∷ []) ≡ keys_of xs ++ y.0 ∷ []
 keys_of-append [] y = refl
@@ -221,13 +234,49 @@ lookup-next p (x ∷ es) (suc i) e u h = go (same_or p x.0) (lookup-next p es i 
         (rw (t, off) refl, λ on. absurd (true≢false (sym on ∙ off)))
     go (apart ne t) rest = (rw t rest.0, λ on. rw t (rest.1 on))
 
-pub known-insert : {A : Type 0} (P : ℕ → Type 0) (es : List (ℕ × A)) (k : ℕ) (v : A) → AllByRecursion P (keys_of es) → P k → AllByRecursion P (keys_of (insert_entry nat_eq es k v))
-known-insert P [] k v all here = (here, tt)
-known-insert P (e ∷ es) k v all here = go (k == e.0) (known-insert P es k v all.1 here)
+module _ {A : Type 0} (es : List (ℕ × A)) (i : ℕ) (e : ℕ × A) (unique : IsDistinct nat_eq (keys_of es)) (at : slice_get es i ≡ Some e) where
+  -- the key of that entry is found up to there
+  pub lookup-own : IsSome (lookup (nat_eq e.0) (take (suc i) es))
+  lookup-own = ap is_some (lookup-next e.0 es i e unique at).0 ∙ elim (same_or e.0 e.0) [ same _ t ↦ rw t refl | apart ne _ ↦ absurd (ne refl) ]
+
+  -- a key that was found before is another, and still found
+  pub lookup-before : (p : ℕ) → IsSome (lookup (nat_eq p) (take i es)) → (e.0 ≢ p) × IsSome (lookup (nat_eq p) (take (suc i) es))
+  lookup-before p some =
+      let n = lookup-next p es i e unique at in
+      elim (same_or e.0 p) [
+        | same _ t ↦ absurd (true≢false (sym some ∙ ap is_some (n.1 t)))
+        | apart ne t ↦ (ne, ap is_some n.0 ∙ rw t some)
+      ]
+
+  -- another key was found before
+  pub lookup-other : (p : ℕ) → e.0 ≢ p → IsSome (lookup (nat_eq p) (take (suc i) es)) → IsSome (lookup (nat_eq p) (take i es))
+  lookup-other p ne some =
+      let found : is_some (if e.0 == p then Some e.1 else lookup (nat_eq p) (take i es)) ≡ true = sym (ap is_some (lookup-next p es i e unique at).0) ∙ some in
+      elim (same_or e.0 p) [
+        | same s _ ↦ absurd (ne s)
+        | apart _ t ↦ let k = rw t at found in k
+      ]
+
+-- a map's insertion puts its key last, where it is not there
+pub keys-insert : {A : Type 0} (es : List (ℕ × A)) (k : ℕ) (v : A) → keys_of (insert_entry nat_eq es k v) ≡ with_last (keys_of es) k
+keys-insert [] k v = refl
+keys-insert (e ∷ es) k v = go (k == e.0) (keys-insert es k v) ∙ ap (λ b. if (if b then true else among k (keys_of es)) then e.0 ∷ keys_of es else (e.0 ∷ keys_of es) ++ k ∷ []) (swapped k e.0)
   where
-    go : (b : Bool) → AllByRecursion P (keys_of (insert_entry nat_eq es k v)) → AllByRecursion P (keys_of (cond b ((e.0, v) ∷ es) (e ∷ insert_entry nat_eq es k v)))
-    go true i = all
-    go false i = (all.0, i)
+    by : (b : Bool) → e.0 ∷ (if b then keys_of es else keys_of es ++ k ∷ []) ≡ (if b then e.0 ∷ keys_of es else (e.0 ∷ keys_of es) ++ k ∷ [])
+    by true = refl
+    by false = refl
+
+    go : (b : Bool) → keys_of (insert_entry nat_eq es k v) ≡ with_last (keys_of es) k
+        → keys_of (cond b ((e.0, v) ∷ es) (e ∷ insert_entry nat_eq es k v)) ≡ (if (if b then true else among k (keys_of es)) then e.0 ∷ keys_of es else (e.0 ∷ keys_of es) ++ k ∷ [])
+    go true i = refl
+    go false i = ap (λ ks. e.0 ∷ ks) i ∙ by (among k (keys_of es))
+
+-- the keys of one more entry
+pub keys-next : {A : Type 0} (es : List (ℕ × A)) (i : ℕ) (e : ℕ × A) → slice_get es i ≡ Some e → keys_of (take (suc i) es) ≡ keys_of (take i es) ++ e.0 ∷ []
+keys-next [] zero e h = let d : ⊥ = cc h in absurd d
+keys-next [] (suc i) e h = let d : ⊥ = cc h in absurd d
+keys-next (x ∷ es) zero e h = let d : x ≡ e = cc h in ap (λ y. y.0 ∷ []) d
+keys-next (x ∷ es) (suc i) e h = ap (λ ks. x.0 ∷ ks) (keys-next es i e h)
 
 pub delivered-standing : (m : Mutation) (standing : List Registration) (v : Option Bool) → delivered m v ≡ delivered (record m { standing = standing }) v
 delivered-standing m standing None = refl

@@ -1,9 +1,9 @@
 -- What is left half-way: lists that begin as they were, and queues with a record more at most.
 use Rattle.std.proofs.Common.{◌≡◌, ◌≢◌, ℕ, ◌==◌, Bool, true, false, not, ◌&&◌, if◌then◌else◌, List, [], ◌∷◌, ◌++◌, Option, Some, None, refl, ap, sym, ◌∙◌, subst, append-nil, append_assoc}
 use Rattle.std.specs.List.{list_any}
-use Rattle.dom_model.specs.Definitions.{among, with_last, with_all_last, Registration, Mutation, Record, is_transient_from, record_with, transient_of}
+use Rattle.dom_model.specs.Definitions.{Registration, Mutation, Record, is_transient_from, transient_of}
 use Rattle.dom_model.proofs.PlainLists.Numbers.{same_or, same, apart}
-use Rattle.dom_observe.specs.{Watchers.Watchers, Watchers.on, Watchers.records_at, Invariant.registered_nodes, Registrations.Registered, Registrations.found, Registrations.origin, Registrations.with_transient, Registrations.with_transients_of, Registrations.with_added_transients, OutOfMemory.IsFront, OutOfMemory.GetsAtMostOne, OutOfMemory.IsPartlyQueued, OutOfMemory.IsPartlyLeft, OutOfMemory.IsPartlyRemoved, Interested.delivered}
+use Rattle.dom_observe.specs.{Watchers.Watchers, Watchers.on, Watchers.records_at, Invariant.registered_nodes, Registrations.Registered, Registrations.found, Registrations.origin, Registrations.with_transient, Registrations.with_transients_of, Registrations.with_added_transients, OutOfMemory.IsFront, OutOfMemory.GetsAtMostOne, OutOfMemory.IsPartlyLeft, OutOfMemory.IsPartlyRemoved, Interested.delivered}
 use Rattle.dom_observe.proofs.InvariantLemmas.{on-registered_nodes}
 
 module _ {A : Type 0} where
@@ -12,19 +12,6 @@ module _ {A : Type 0} where
 
   pub front-trans : (xs ys zs : List A) → IsFront xs ys → IsFront ys zs → IsFront xs zs
   front-trans xs ys zs f g = (f.0 ++ g.0, g.1 ∙ ap (λ v. v ++ g.0) f.1 ∙ append_assoc xs f.0 g.0)
-
--- numbers that come last
-
-pub front-last : (ns : List ℕ) (n : ℕ) → IsFront ns (with_last ns n)
-front-last ns n = go (among n ns)
-  where
-    go : (b : Bool) → IsFront ns (if b then ns else ns ++ n ∷ [])
-    go true = front-same ns ns refl
-    go false = (n ∷ [], refl)
-
-pub front-all_last : (ns ms : List ℕ) → IsFront ns (with_all_last ns ms)
-front-all_last ns [] = front-same ns ns refl
-front-all_last ns (m ∷ ms) = front-trans ns (with_last ns m) (with_all_last (with_last ns m) ms) (front-last ns m) (front-all_last (with_last ns m) ms)
 
 -- transient registrations that come in on a node
 
@@ -56,20 +43,9 @@ module _ (m : Mutation) where
   pub gets-none : (old new : List Record) → new ≡ old → GetsAtMostOne m old new
   gets-none old new e = (None, e ∙ sym (append-nil old))
 
-  pub gets-one : (asks b : Bool) (r : Record) (old new : List Record) → r ≡ record_with m (if asks then m.old_value else None) → new ≡ (if b then old ++ r ∷ [] else old) → GetsAtMostOne m old new
-  gets-one asks true r old new is e = (Some asks, e ∙ ap (λ s. old ++ s ∷ []) is)
-  gets-one asks false r old new is e = gets-none old new e
-
 -- nothing has changed
 
 module _ (old new : Watchers) (e : new ≡ old) where
-  pub queued-same : (m : Mutation) → IsPartlyQueued m old new
-  queued-same m = record {
-    nodes = ap (λ (o : Watchers). o.nodes) e;
-    pending = front-same old.pending new.pending (ap (λ (o : Watchers). o.pending) e);
-    queues = λ i. gets-none m (records_at old.queues i) (records_at new.queues i) (ap (λ (o : Watchers). records_at o.queues i) e);
-  }
-
   pub left-same : (node : ℕ) → IsPartlyLeft node old new
   left-same node = record {
     here = front-same (on node old.nodes) (on node new.nodes) (ap (λ (o : Watchers). on node o.nodes) e);
@@ -88,15 +64,6 @@ module _ (old new : Watchers) (e : new ≡ old) where
 
 module _ (reg : Registered) (queues : List (Option (List Record))) (pending : List ℕ) (old : Watchers)
     (is : record { nodes = registered_nodes reg; queues = queues; pending = pending } ≡ old) where
-  -- some are told
-  pub partly-queued : (m : Mutation) (queues' : List (Option (List Record))) (pending' : List ℕ) → IsFront pending pending' → ((i : ℕ) → GetsAtMostOne m (records_at queues i) (records_at queues' i))
-      → IsPartlyQueued m old (record { nodes = registered_nodes reg; queues = queues'; pending = pending' })
-  partly-queued m queues' pending' front each = record {
-    nodes = ap (λ (o : Watchers). o.nodes) is;
-    pending = (front.0, front.1 ∙ ap (λ (o : Watchers). o.pending ++ front.0) is);
-    queues = λ i. ((each i).0, (each i).1 ∙ ap (λ (o : Watchers). records_at o.queues i ++ delivered m (each i).0) is);
-  }
-
   -- some transient registrations came in
   module _ (reg' : Registered) (node : ℕ) (front : IsFront (found reg (on node reg.lists)) (found reg' (on node reg'.lists)))
       (elsewhere : (n : ℕ) → n ≢ node → found reg' (on n reg'.lists) ≡ found reg (on n reg.lists)) where

@@ -10,6 +10,7 @@ pub mod EndFromLemmas
 pub mod LeftByLemmas
 pub mod EndByNodeLemmas
 pub mod ListAnyLemmas
+pub mod IsFreshLemmas
 pub mod GatherLemmas
 pub mod InterestedLemmas
 pub mod NamesHeldLemmas

@@ -1,5 +1,5 @@
 -- The queues of observers by their numbers, as one of them changes.
-use Rattle.std.proofs.Common.{◌≡◌, ℕ, zero, suc, ◌-◌, ◌<◌, ◌≤◌, ◌==◌, true, false, if◌then◌else◌, List, [], ◌∷◌, ◌++◌, length, Option, None, Some, is_some, refl, ap, sym, ◌∙◌, arith, ◌⊎◌, inl, inr, length-set, slice_index_or, slice_set, unwrap_or}
+use Rattle.std.proofs.Common.{◌≡◌, ℕ, zero, suc, ◌-◌, ◌<◌, ◌≤◌, ◌==◌, true, false, if◌then◌else◌, List, [], ◌∷◌, ◌++◌, length, take, Option, None, Some, is_some, refl, ap, sym, ◌∙◌, arith, ◌⊎◌, inl, inr, length-set, slice_index_or, slice_set, unwrap_or}
 use Rattle.std.proofs.lemmas.{Bool.cases_lt, Bool.true≢false, List.get_or_append_left, List.get_or-append_right, List.get_or_past, List.get_or-set_same, List.get_or-set_other}
 use Rattle.dom_model.specs.Definitions.{Record}
 use Rattle.dom_model.proofs.PlainLists.Numbers.{Same, same_or, same, apart}
@@ -48,6 +48,15 @@ module _ (queues : List (Option (List Record))) where
     where
       go : Same i p → (if i == p then q' else records_at queues p) ≡ (if i == p then records_at queues p ++ r ∷ [] else records_at queues p)
       go (same e t) = rw t (pushed ∙ ap (λ rs. rs ++ r ∷ []) (sym (ap (λ (o : Option (List Record)). unwrap_or o []) (ap (queue_at queues) (sym e) ∙ at))))
+      go (apart ne t) = rw t refl
+
+  -- the last record of its queue goes
+  pub records-shortened : (i : ℕ) (q : List Record) → queue_at queues i ≡ Some q → (q' : List Record) → q' ≡ take (length q - 1) q
+      → (p : ℕ) → records_at (slice_set queues i (Some q')) p ≡ (if i == p then take (length (records_at queues p) - 1) (records_at queues p) else records_at queues p)
+  records-shortened i q at q' shortened p = records-set i (ap is_some at) q' p ∙ go (same_or i p)
+    where
+      go : Same i p → (if i == p then q' else records_at queues p) ≡ (if i == p then take (length (records_at queues p) - 1) (records_at queues p) else records_at queues p)
+      go (same e t) = rw t (shortened ∙ ap (λ (rs : List Record). take (length rs - 1) rs) (sym (ap (λ (o : Option (List Record)). unwrap_or o []) (ap (queue_at queues) (sym e) ∙ at))))
       go (apart ne t) = rw t refl
 
   -- It is released.

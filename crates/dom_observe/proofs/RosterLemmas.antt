@@ -1,9 +1,10 @@
 -- What is kept of observers by their numbers, as one of them changes: the keys, and the queues.
-use Rattle.std.proofs.Common.{◌≡◌, ℕ, zero, suc, ◌<◌, true, List, [], ◌∷◌, ◌++◌, length, map, Option, None, Some, is_some, option_map, refl, ap, sym, ◌∙◌, arith, slice_index_or, slice_set}
+use Rattle.std.proofs.Common.{◌≡◌, ℕ, zero, suc, ◌<◌, true, List, [], ◌∷◌, ◌++◌, length, map, Option, None, Some, is_some, option_map, refl, ap, sym, ◌∙◌, arith, slice_index_or, slice_set, unwrap_or}
 use Rattle.std.proofs.Math.ListN.{get_or-map}
 use Rattle.std.proofs.Math.Seq.{map-set_same}
-use Rattle.std.proofs.lemmas.List.{length-map, map_push, map-set}
-use Rattle.dom_observe.specs.{declared.roster.Observer.Observer, Watchers.queue_at, Invariant.has_queue, Roster.observer_at, Roster.keys_by, Roster.first_keys, Roster.second_keys, Roster.lasting_by, Roster.passing_by, Roster.queues_by}
+use Rattle.std.proofs.lemmas.{Bool.true≢false, List.length-map, List.map_push, List.map-set, List.ext_get_or}
+use Rattle.dom_model.specs.Definitions.{Record}
+use Rattle.dom_observe.specs.{declared.roster.Observer.Observer, Watchers.queue_at, Invariant.has_queue, Roster.observer_at, Roster.keys_by, Roster.first_keys, Roster.second_keys, Roster.lasting_by, Roster.passing_by, Roster.queues_by, Roster.records_of}
 use Rattle.dom_observe.proofs.{InvariantLemmas.set_same, QueueListLemmas.queue_within}
 
 -- the keys of one
@@ -11,8 +12,8 @@ abbrev both_keys : Observer → List ℕ × List ℕ
 both_keys o = (o.lasting.items, o.passing.items)
 
 module _ (roster : List (Option Observer)) where
-  pub queue-kept : (i : ℕ) → queue_at (queues_by roster) i ≡ option_map (λ (o : Observer). o.queue) (observer_at roster i)
-  queue-kept i = get_or-map (option_map (λ (o : Observer). o.queue)) roster i None
+  pub queue-kept : (i : ℕ) → queue_at (queues_by roster) i ≡ option_map (λ (o : Observer). o.queue.records) (observer_at roster i)
+  queue-kept i = get_or-map (option_map (λ (o : Observer). o.queue.records)) roster i None
 
   keys-kept : (i : ℕ) → slice_index_or (keys_by roster) i None ≡ option_map both_keys (observer_at roster i)
   keys-kept i = get_or-map (option_map both_keys) roster i None
@@ -21,7 +22,7 @@ module _ (roster : List (Option Observer)) where
   pub has-kept : (i : ℕ) → has_queue (queues_by roster) i ≡ is_some (observer_at roster i)
   has-kept i = ap is_some (queue-kept i) ∙ go (observer_at roster i)
     where
-      go : (o : Option Observer) → is_some (option_map (λ (p : Observer). p.queue) o) ≡ is_some o
+      go : (o : Option Observer) → is_some (option_map (λ (p : Observer). p.queue.records) o) ≡ is_some o
       go None = refl
       go (Some o) = refl
 
@@ -33,7 +34,7 @@ module _ (roster : List (Option Observer)) where
       go (Some o) = refl
 
   pub length-queues : length (queues_by roster) ≡ length roster
-  length-queues = length-map roster (option_map (λ (o : Observer). o.queue))
+  length-queues = length-map roster (option_map (λ (o : Observer). o.queue.records))
 
   length-keys : length (keys_by roster) ≡ length roster
   length-keys = length-map roster (option_map both_keys)
@@ -53,8 +54,8 @@ module _ (roster : List (Option Observer)) where
 
   -- One that is there.
   module _ (i : ℕ) (o : Observer) (at : observer_at roster i ≡ Some o) where
-    pub queue-there : queue_at (queues_by roster) i ≡ Some o.queue
-    queue-there = queue-kept i ∙ ap (option_map (λ (p : Observer). p.queue)) at
+    pub queue-there : queue_at (queues_by roster) i ≡ Some o.queue.records
+    queue-there = queue-kept i ∙ ap (option_map (λ (p : Observer). p.queue.records)) at
 
     pub lasting-there : slice_index_or (lasting_by roster) i [] ≡ o.lasting.items
     lasting-there = get_or-map first_keys (keys_by roster) i None ∙ ap first_keys (keys-kept i ∙ ap (option_map both_keys) at)
@@ -80,10 +81,10 @@ module _ (roster : List (Option Observer)) where
         ∙ map-set_same second_keys (keys_by roster) i (Some (both_keys p)) None (passing ∙ sym (ap second_keys (keys-kept i ∙ ap (option_map both_keys) at)))
 
     -- other keys in place of its own
-    pub queues-same : (p : Observer) → p.queue ≡ o.queue → queues_by (slice_set roster i (Some p)) ≡ queues_by roster
+    pub queues-same : (p : Observer) → p.queue.records ≡ o.queue.records → queues_by (slice_set roster i (Some p)) ≡ queues_by roster
     queues-same p queue =
-        map-set_same (option_map (λ (q : Observer). q.queue)) roster i (Some p) None
-        (ap Some queue ∙ sym (ap (option_map (λ (q : Observer). q.queue)) at))
+        map-set_same (option_map (λ (q : Observer). q.queue.records)) roster i (Some p) None
+        (ap Some queue ∙ sym (ap (option_map (λ (q : Observer). q.queue.records)) at))
 
     -- it is as it was
     pub roster-same : (p : Observer) → p ≡ o → slice_set roster i (Some p) ≡ roster
@@ -94,8 +95,8 @@ module _ (roster : List (Option Observer)) where
     pub keys-made : o.lasting.items ≡ [] → o.passing.items ≡ [] → keys_by (roster ++ Some o ∷ []) ≡ keys_by roster ++ Some ([], []) ∷ []
     keys-made lasting passing = map_push (option_map both_keys) roster (Some o) ∙ (λ j. keys_by roster ++ Some (lasting j, passing j) ∷ [])
 
-    pub queues-made : o.queue ≡ [] → queues_by (roster ++ Some o ∷ []) ≡ queues_by roster ++ Some [] ∷ []
-    queues-made queue = map_push (option_map (λ (p : Observer). p.queue)) roster (Some o) ∙ (λ j. queues_by roster ++ Some (queue j) ∷ [])
+    pub queues-made : o.queue.records ≡ [] → queues_by (roster ++ Some o ∷ []) ≡ queues_by roster ++ Some [] ∷ []
+    queues-made queue = map_push (option_map (λ (p : Observer). p.queue.records)) roster (Some o) ∙ (λ j. queues_by roster ++ Some (queue j) ∷ [])
 
   -- Another in its place, or none.
   module _ (i : ℕ) where
@@ -105,8 +106,8 @@ module _ (roster : List (Option Observer)) where
     pub passing-set : (o : Observer) → passing_by (slice_set roster i (Some o)) ≡ slice_set (passing_by roster) i o.passing.items
     passing-set o = ap (map second_keys) (map-set (option_map both_keys) roster i (Some o)) ∙ map-set second_keys (keys_by roster) i (Some (both_keys o))
 
-    pub queues-set : (o : Observer) → queues_by (slice_set roster i (Some o)) ≡ slice_set (queues_by roster) i (Some o.queue)
-    queues-set o = map-set (option_map (λ (p : Observer). p.queue)) roster i (Some o)
+    pub queues-set : (o : Observer) → queues_by (slice_set roster i (Some o)) ≡ slice_set (queues_by roster) i (Some o.queue.records)
+    queues-set o = map-set (option_map (λ (p : Observer). p.queue.records)) roster i (Some o)
 
     pub lasting-gone : lasting_by (slice_set roster i None) ≡ slice_set (lasting_by roster) i []
     lasting-gone = ap (map first_keys) (map-set (option_map both_keys) roster i None) ∙ map-set first_keys (keys_by roster) i None
@@ -115,7 +116,7 @@ module _ (roster : List (Option Observer)) where
     passing-gone = ap (map second_keys) (map-set (option_map both_keys) roster i None) ∙ map-set second_keys (keys_by roster) i None
 
     pub queues-gone : queues_by (slice_set roster i None) ≡ slice_set (queues_by roster) i None
-    queues-gone = map-set (option_map (λ (p : Observer). p.queue)) roster i None
+    queues-gone = map-set (option_map (λ (p : Observer). p.queue.records)) roster i None
 
 -- The same observers with the same keys.
 module _ (old new : List (Option Observer)) (keys : keys_by new ≡ keys_by old) where
@@ -124,6 +125,16 @@ module _ (old new : List (Option Observer)) (keys : keys_by new ≡ keys_by old)
 
   pub length-same : length (queues_by new) ≡ length (queues_by old)
   length-same = length-queues new ∙ sym (length-keys new) ∙ ap length keys ∙ length-keys old ∙ sym (length-queues old)
+
+  -- and the same records
+  pub queues-alike : ((p : ℕ) → records_of new p ≡ records_of old p) → queues_by new ≡ queues_by old
+  queues-alike same_records = ext_get_or None (queues_by new) (queues_by old) length-same (λ i within. go (queue_at (queues_by new) i) (queue_at (queues_by old) i) (has-same i) (same_records i))
+    where
+      go : (q r : Option (List Record)) → is_some q ≡ is_some r → unwrap_or q [] ≡ unwrap_or r [] → q ≡ r
+      go None None h e = refl
+      go None (Some r) h e = absurd (true≢false (sym h))
+      go (Some q) None h e = absurd (true≢false h)
+      go (Some q) (Some r) h e = ap (λ v. Some v) e
 
 -- One more observer, without keys.
 no_more : (ls : List (List ℕ)) (i : ℕ) → slice_index_or (ls ++ [] ∷ []) i [] ≡ slice_index_or ls i []

@@ -7,6 +7,7 @@ pub mod Notification
 pub mod ObservedNodes
 pub mod Origins
 pub mod OutOfMemory
+pub mod Queued
 pub mod QueuedNodes
 pub mod Registrations
 pub mod Removal

@@ -13,13 +13,6 @@ IsFront {A} front whole = (rest : List A) × (whole ≡ front ++ rest)
 abbrev pub GetsAtMostOne : Mutation → List Record → List Record → Type 0
 GetsAtMostOne m old new = (asks : Option Bool) × (new ≡ old ++ delivered m asks)
 
--- Some observers may have their record of the mutation and others not, and some may be pending that
--- were not; registrations stay.
-pub record IsPartlyQueued (m : Mutation) (old new : Watchers) : Type 0 where
-  pub nodes : new.nodes ≡ old.nodes
-  pub pending : IsFront old.pending new.pending
-  pub queues : (i : ℕ) → GetsAtMostOne m (records_at old.queues i) (records_at new.queues i)
-
 -- Some transient registrations may have come in last on the node; those on other nodes stay, and so
 -- do queues and the pending list.
 pub record IsPartlyLeft (node : ℕ) (old new : Watchers) : Type 0 where

@@ -11,7 +11,7 @@ ghost use Rattle.dom_observe.specs.ObservedNodes.{referred_nodes, nodes_of_mutat
 ghost use Rattle.std.specs.List.{list_any};
 ghost use Rattle.dom_observe.specs.Notification.{waiting_in, IsNotified};
 ghost use Rattle.dom_observe.specs.WithoutRepeats.{once};
-ghost use Rattle.dom_observe.specs.OutOfMemory.{IsPartlyQueued, IsPartlyLeft, IsPartlyRemoved};
+ghost use Rattle.dom_observe.specs.OutOfMemory.{IsPartlyLeft, IsPartlyRemoved};
 ghost use Rattle.dom_observe.specs.Removal.{removed_below};
 ghost use Rattle.dom_observe.specs.Sound.{AreSoundWatchers};
 ghost use Rattle.dom_observe.specs.Watchers.{queue_in, records_at, registrations_in, Watches, StepsObserving, AnswersQuestion};
@@ -300,8 +300,7 @@ impl Observers {
 
     /// Queues a record of a mutation for each interested observer ("queue a mutation record").
     ///
-    /// Call it before the tree changes further, since it looks at the target's present ancestors. After an error some observers may have their record
-    /// and others not; if no observer is registered at those ancestors, nothing has changed.
+    /// Call it before the tree changes further, since it looks at the target's present ancestors. After an error nothing has changed.
     pub fn queue_record<X>(
         &mut self,
         tree: &Tree<X>,
@@ -312,7 +311,7 @@ impl Observers {
             Watches self.new (noted (record (mutation.now) {
               standing = standing_on (ancestors mutation.now.target tree.now.forest) x.registrations;
             }) x)) }
-        ensures partly { OnErr result (IsPartlyQueued mutation.now self.old self.new) }
+        ensures err { OnErr result (self.new ≡ self.old) }
         ensures names { NamesOnly (nodes_of_mutation mutation.now) self.old self.new }
         ensures made { SameObservers self.old self.new }
         ensures quiet { NamesNoneOf (ancestors mutation.now.target tree.now.forest) self.old →

@@ -1,6 +1,6 @@
 //! The records that wait for an observer, and the set of nodes in them.
 
-ghost use Rattle.std.specs.Prelude.{◌≡◌, ℕ, ◌+◌, ◌<◌, ◌≤◌, ◌==◌, ◌||◌, [], ◌∷◌, ◌++◌, length, nat_eq, flat_map, OnOk, OnErr};
+ghost use Rattle.std.specs.Prelude.{◌≡◌, ℕ, ◌+◌, ◌-◌, ◌<◌, ◌≤◌, ◌==◌, ◌||◌, [], ◌∷◌, ◌++◌, length, take, nat_eq, flat_map, OnOk, OnErr};
 ghost use Rattle.std.specs.List.{list_any};
 ghost use Rattle.indexmap.specs.IndexSet.{contains, spare};
 ghost use Rattle.dom_model.specs.PlainLists.Lists.{among};
@@ -30,12 +30,14 @@ pub struct Queue {
 }
 
 impl Model for Queue {
-    ghost use Rattle.std.specs.Prelude.{List};
-    ghost use Rattle.dom_model.specs.MutationObservers.Record.{Record as PlainRecord};
+    ghost use Rattle.dom_observe.specs.Queued.{Queued};
 
-    ghost Value = { List PlainRecord };
+    ghost Value = { Queued };
 
-    ghost view = { λ q. q.records.items };
+    ghost view = { λ q. record {
+      records = q.records.items;
+      caught_up = q.caught_up;
+    } };
 
     ghost use Rattle.dom_observe.specs.QueuedNodes.{IsCaughtUp};
 
@@ -45,7 +47,7 @@ impl Model for Queue {
 impl Queue {
     // Returns an empty queue. It takes no memory.
     pub fn new(alloc: Global) -> Queue
-        ensures { result ≡ [] }
+        ensures { result.records ≡ [] }
     {
         Queue {
             records: Vec::new(alloc),
@@ -57,7 +59,8 @@ impl Queue {
 
     // Appends a record, and reserves room for its nodes in the set, to which `flush_pending` adds them.
     pub fn push(&mut self, told: Record) -> Result<(), AllocError>
-        ensures ok { OnOk result (self.new ≡ self.old ++ told ∷ []) }
+        ensures ok { OnOk result (self.new.records ≡ self.old.records ++ told ∷ []) }
+        ensures fresh { OnOk result (self.new.caught_up < length self.new.records) }
         ensures err { OnErr result (self.new ≡ self.old) }
     {
         let owed = self.owed.checked_add(room_for(&told)).ok_or(AllocError)?;
@@ -68,9 +71,19 @@ impl Queue {
         Ok(())
     }
 
+    // Removes the last record, whose nodes are not in the set yet. It takes no memory.
+    pub fn remove_last(&mut self)
+        requires { self.old.caught_up < length self.old.records }
+        ensures { self.new.records ≡ take (length self.old.records - 1) self.old.records }
+    {
+        if let Some(told) = self.records.pop() {
+            self.owed -= room_for(&told);
+        }
+    }
+
     // Adds the nodes in records queued since its last call to the set. It takes no memory: room is reserved.
     pub fn flush_pending(&mut self)
-        ensures { self.new ≡ self.old }
+        ensures { self.new.records ≡ self.old.records }
     {
         name_each(&mut self.named, &self.records.as_slice()[self.caught_up..]);
         self.caught_up = self.records.len();
@@ -81,8 +94,8 @@ impl Queue {
     //
     // Clearing the set costs in proportion to its room, so it is cleared only if a good part of that was used.
     pub fn take(&mut self, alloc: Global) -> Vec<Record>
-        ensures records { result.items ≡ self.old }
-        ensures emptied { self.new ≡ [] }
+        ensures records { result.items ≡ self.old.records }
+        ensures emptied { self.new.records ≡ [] }
     {
         let room = self.named.capacity();
         let used = self.named.len();
@@ -102,7 +115,7 @@ impl Queue {
     pub fn names_inside<X>(&self, tree: &Tree<X>, top: NodeId) -> bool
         requires { HasNode tree.now.forest top }
         ensures { result ≡ list_any (λ m. among m (inclusive_descendants tree.now.forest top))
-            (flat_map nodes_of_record self.now) }
+            (flat_map nodes_of_record self.now.records) }
     {
         is_named_inside(tree, top, &self.named)
             || is_recorded_inside(tree, top, &self.records.as_slice()[self.caught_up..])
@@ -184,11 +197,23 @@ fn is_recorded_inside<X>(tree: &Tree<X>, top: NodeId, records: &[Record]) -> boo
     records.iter().any(|told| has_node_inside(tree, top, told))
 }
 
-// Reserves room for the nodes in a record.
-fn room_for(told: &Record) -> usize
-    ensures { length (nodes_of_record told.now) ≤ result }
+// Returns the number of nodes in an optional node.
+#[inline(always)]
+fn count_of(node: Option<NodeId>) -> usize
+    ensures { result ≡ length (if_any node) }
 {
-    told.added.as_slice().len() + told.removed.as_slice().len() + 3
+    match node {
+        Some(_) => 1,
+        None => 0,
+    }
+}
+
+// Returns the number of nodes in a record.
+fn room_for(told: &Record) -> usize
+    ensures { result ≡ length (nodes_of_record told.now) }
+{
+    let siblings = count_of(told.previous) + count_of(told.next);
+    told.added.as_slice().len() + told.removed.as_slice().len() + siblings + 1
 }
 
 // Adds a node to the set, within reserved room.

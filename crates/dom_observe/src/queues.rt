@@ -24,7 +24,8 @@ pub(crate) fn take_from(roster: &mut Roster, observer: ObserverId, alloc: Global
 // Updates the sets of nodes of some observers' queues. It takes no memory.
 pub(crate) fn flush_each(roster: &mut Roster, observers: &IndexSet<ObserverId>)
     requires { AllThere (is_there roster.old) observers.now.keys }
-    ensures { roster.new ≡ roster.old }
+    ensures queues { queues_by roster.new ≡ queues_by roster.old }
+    ensures keys { keys_by roster.new ≡ keys_by roster.old }
 {
     for observer in observers.as_slice() {
         let kept = roster.get_mut(*observer);

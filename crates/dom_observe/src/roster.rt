@@ -25,7 +25,7 @@ impl Observer {
     fn new(alloc: Global) -> Observer
         ensures lasting { result.lasting.items ≡ [] }
         ensures passing { result.passing.items ≡ [] }
-        ensures queue { result.queue ≡ [] }
+        ensures queue { result.queue.records ≡ [] }
     {
         Observer {
             lasting: Vec::new(alloc),

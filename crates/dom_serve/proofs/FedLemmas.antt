@@ -5,7 +5,7 @@ use Rattle.std.specs.Io.KnownBytes.{Appends}
 use Rattle.dom_model.specs.declared.OwnError.TheVariants.{LineTooLong}
 use Rattle.dom_model.specs.Definitions.{Bounds, Step, World, first_world, reply_line, lines_of, line_if_any, step_of, line_step, world_after, replies_from}
 use Rattle.dom_model.specs.{Commands.Table.whole_table, Commands.Line.command_of, Commands.Line.command_within, Commands.Output.whole_lines, Commands.Output.last_piece, Commands.Output.due}
-use Rattle.dom_wire.specs.Sessions.{StandsFor}
+use Rattle.dom_session.specs.Sessions.{StandsFor}
 use Rattle.dom_serve.specs.{declared.fault.Fault.Fault, declared.fault.Fault.TheVariants.Read, declared.fault.Fault.TheVariants.Write, declared.fault.Fault.TheVariants.Memory, declared.fault.Fault.TheVariants.InputTooLong, declared.server.Server.Server, Server.EndsNoLine, Server.held_command, Server.held_step, Server.Fails, Server.HoldsPiece, Server.IsServerAfter, Server.Grows, Server.Breaks, Server.Fed, Server.Finishes, Server.SaysWant}
 use Rattle.dom_serve.proofs.{LinesLemmas.whole_lines-append_newline, LinesLemmas.last_piece-append_newline, LinesLemmas.whole_lines-append_part, LinesLemmas.last_piece-append_part, LinesLemmas.due-append, LinesLemmas.due-part, LinesLemmas.due-newline, LinesLemmas.world-newline, GrowsLemmas.Grows-same, GrowsLemmas.Grows-one, GrowsLemmas.Grows-trans, GrowsLemmas.Breaks-more, GrowsLemmas.Breaks-after, GrowsLemmas.Breaks-want, GrowsLemmas.Breaks-front}
 

@@ -1,2 +1,2 @@
 -- The bounds that limits stand for, for the program.
-pub use Rattle.dom_wire.specs.Sessions.{bounds_of}
+pub use Rattle.dom_session.specs.Sessions.{bounds_of}

@@ -12,7 +12,7 @@ use Rattle.dom_model.specs.Commands.Table.{whole_table}
 use Rattle.dom_model.specs.Commands.Line.{command_of}
 use Rattle.dom_model.specs.Commands.Printed.{reply_line, out_of_memory_line}
 use Rattle.dom_model.specs.Commands.Output.{joined, due, whole_lines, last_piece, lines_of, step_of, world_after}
-use Rattle.dom_wire.specs.Sessions.{SessionView, StandsFor}
+use Rattle.dom_session.specs.Sessions.{SessionView, StandsFor}
 use Rattle.dom_serve.specs.declared.fault.Fault.{Fault}
 use Rattle.dom_serve.specs.declared.fault.Fault.TheVariants.{Read, Write, Memory, InputTooLong}
 use Rattle.dom_serve.specs.declared.server.Server.{Server}

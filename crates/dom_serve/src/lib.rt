@@ -14,7 +14,8 @@ mod server;
 mod streams;
 mod to_write;
 
-pub use dom_wire::{Limits, ReadError, read_line, write_reply};
+pub use dom_session::Limits;
+pub use dom_wire::{ReadError, read_line, write_reply};
 pub use fault::{Fault, Summary};
 pub use from_read::FromRead;
 pub use last_error::LastError;

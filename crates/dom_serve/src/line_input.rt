@@ -2,7 +2,7 @@
 
 ghost use Rattle.std.specs.Prelude.{◌≡◌, ℕ, ◌+◌, ◌<◌, ◌≤◌, ◌^◌, true, false, List, ◌++◌, ◌∷◌, [], length, IfOk, MatchOption};
 ghost use Rattle.dom_model.specs.Commands.Answer.{Bounds};
-ghost use Rattle.dom_wire.specs.Sessions.{bounds_of};
+ghost use Rattle.dom_session.specs.Sessions.{bounds_of};
 ghost use Rattle.dom_serve.specs.Calls.{HasAnswered, IsWritten};
 ghost use Rattle.dom_serve.specs.ByLine.{IsWrittenByLine};
 ghost use Rattle.dom_serve.specs.Output.{is_write_fault};
@@ -13,7 +13,7 @@ use crate::line_output::write_out_of_memory;
 use crate::replies::answer;
 use crate::server::Server;
 use crate::streams::Sink;
-use dom_wire::{Limits, Session};
+use dom_session::{Limits, Session};
 use memchr::memchr;
 use std::alloc::{AllocError, Global};
 

@@ -2,8 +2,8 @@
 
 ghost use Rattle.std.specs.Prelude.{◌≡◌, true, false, IfOk};
 ghost use Rattle.dom_model.specs.Worlds.World.{World};
-ghost use Rattle.dom_wire.specs.Sessions.{StandsFor};
-ghost use Rattle.dom_wire.specs.Sessions.{reply_view};
+ghost use Rattle.dom_session.specs.Sessions.{StandsFor};
+ghost use Rattle.dom_session.specs.Sessions.{reply_view};
 ghost use Rattle.dom_wire.specs.Reads.{ReadsCommand};
 ghost use Rattle.dom_serve.specs.Calls.{IsWritten};
 ghost use Rattle.dom_serve.specs.ByLine.{IsLine, IsWrittenByLine};
@@ -13,7 +13,8 @@ ghost use Rattle.dom_serve.specs.Server.{held_command, held_step, Takes, PrintsS
 use crate::fault::Fault;
 use crate::line_output::{write_line, write_out_of_memory};
 use crate::streams::{Failed, Sink};
-use dom_wire::{Brief, Command, OwnError, ReadError, Reply, Session, read_line, write_reply};
+use dom_session::{Brief, Command, OwnError, Reply, Session};
+use dom_wire::{ReadError, read_line, write_reply};
 use std::alloc::{AllocError, Global};
 
 /// Returns the command of a line, or the refusal of its form.

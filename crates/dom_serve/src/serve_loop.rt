@@ -5,7 +5,7 @@ ghost use Rattle.std.specs.Io.KnownBytes.{Appends, IsAtEnd, ReadConsumes};
 ghost use Rattle.dom_model.specs.Commands.Answer.{Bounds};
 ghost use Rattle.dom_model.specs.Commands.Table.{whole_table};
 ghost use Rattle.dom_model.specs.Commands.Output.{output_of};
-ghost use Rattle.dom_wire.specs.Sessions.{bounds_of};
+ghost use Rattle.dom_session.specs.Sessions.{bounds_of};
 ghost use Rattle.dom_serve.specs.Calls.{IsWritten, HasPassedOn, HasAnswered};
 ghost use Rattle.dom_serve.specs.ByLine.{IsWrittenByLine};
 ghost use Rattle.dom_serve.specs.Serves.{ServesPieces, Serves};
@@ -16,7 +16,7 @@ use crate::fault::{Fault, Summary};
 use crate::line_output::write_out_of_memory;
 use crate::server::Server;
 use crate::streams::{Failed, Sink, Source};
-use dom_wire::Limits;
+use dom_session::Limits;
 use std::alloc::{AllocError, Global};
 
 /// The most bytes of one read.

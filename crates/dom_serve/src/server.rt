@@ -1,6 +1,6 @@
 //! The state of a server: a session, and the current line.
 
-use dom_wire::Session;
+use dom_session::Session;
 use std::alloc::Global;
 
 /// A session, and the buffered bytes of a line without its newline. There are at most as many as the limit of a line.

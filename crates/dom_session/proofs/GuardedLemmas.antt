@@ -8,7 +8,8 @@ use Rattle.dom_model.specs.Commands.Reply as model_reply
 use Rattle.dom_model.proofs.Soundness.SoundAnswers.{sound-answer}
 use Rattle.dom_edit.specs.{declared.world.World.World, declared.refusal.Refusal.Refusal, Whole.IsWhole, Whole.Shows, Whole.Follows, Refusals.IsRefused}
 use Rattle.dom_edit.specs.declared.refusal.Refusal.TheVariants as refusal
-use Rattle.dom_session.specs.{declared.reply.Reply.Reply, declared.brief.Brief.TheVariants.Dom, Views.reply_view, Refusals.reply_to, declared.brief.Brief.Brief, Brief.reply_of, Brief.brief_to, SessionViews.IsStep}
+use Rattle.dom_commands.specs.{declared.reply.Reply.Reply, declared.brief.Brief.TheVariants.Dom, Views.reply_view, declared.brief.Brief.Brief, Brief.reply_of}
+use Rattle.dom_session.specs.{Refusals.reply_to, Refusals.brief_to, SessionViews.IsStep}
 
 -- where none of the first tests holds, those behind them decide
 pub guarded-none : (cs ds : List (Bool × model_reply.Reply)) (w : model.World) (s : Step) → first_refusal cs ≡ None → guarded (cs ++ ds) w s ≡ guarded ds w s

@@ -2,8 +2,9 @@
 use Rattle.std.proofs.Common.{◌≡◌, refl, ap, ◌∙◌, subst}
 use Rattle.dom_model.specs.Definitions.{World, Bounds, Step, answer}
 use Rattle.dom_model.specs.Commands.Command as model
-use Rattle.dom_session.specs.{declared.command.Command.Command, declared.command.Making.Making, declared.command.Making.TheVariants.NewDocument, declared.command.Making.TheVariants.CreateElement, declared.command.Making.TheVariants.CreateText, declared.command.Making.TheVariants.CreateComment, declared.command.Making.TheVariants.CreatePI, declared.command.Making.TheVariants.CreateDoctype, declared.command.Making.TheVariants.CreateFragment, declared.command.Editing.Editing, declared.command.Editing.TheVariants.InsertBefore, declared.command.Editing.TheVariants.AppendChild, declared.command.Editing.TheVariants.AdoptNode, declared.command.Editing.TheVariants.ReplaceChild, declared.command.Editing.TheVariants.RemoveChild, declared.command.Editing.TheVariants.Remove, declared.command.Editing.TheVariants.ReplaceChildren, declared.command.Editing.TheVariants.Discard, declared.command.Asking.Asking, declared.command.Asking.TheVariants.DescribeNode, declared.command.Asking.TheVariants.Children, declared.command.Asking.TheVariants.Index, declared.command.Asking.TheVariants.Length, declared.command.Asking.TheVariants.Root, declared.command.Asking.TheVariants.Tree, declared.command.Ranging.Ranging, declared.command.Ranging.TheVariants.CreateRange, declared.command.Ranging.TheVariants.CloneRange, declared.command.Ranging.TheVariants.DescribeRange, declared.command.Ranging.TheVariants.ReleaseRange, declared.command.Setting.Setting, declared.command.Setting.TheVariants.SetStart, declared.command.Setting.TheVariants.SetEnd, declared.command.Setting.TheVariants.SetStartBefore, declared.command.Setting.TheVariants.SetStartAfter, declared.command.Setting.TheVariants.SetEndBefore, declared.command.Setting.TheVariants.SetEndAfter, declared.command.Setting.TheVariants.Collapse, declared.command.Setting.TheVariants.SelectNode, declared.command.Setting.TheVariants.SelectNodeContents, declared.command.Comparing.Comparing, declared.command.Comparing.TheVariants.CompareBoundaryPoints, declared.command.Comparing.TheVariants.ComparePoint, declared.command.Comparing.TheVariants.IsPointInRange, declared.command.Comparing.TheVariants.IntersectsNode, declared.command.Comparing.TheVariants.CommonAncestor, declared.command.StaticRanging.StaticRanging, declared.command.StaticRanging.TheVariants.CreateStaticRange, declared.command.StaticRanging.TheVariants.DescribeStaticRange, declared.command.StaticRanging.TheVariants.ReleaseStaticRange, declared.command.Traversing.Traversing, declared.command.Traversing.TheVariants.CreateIterator, declared.command.Traversing.TheVariants.CreateWalker, declared.command.Traversing.TheVariants.DescribeIterator, declared.command.Traversing.TheVariants.NextNode, declared.command.Traversing.TheVariants.PreviousNode, declared.command.Traversing.TheVariants.DescribeWalker, declared.command.Traversing.TheVariants.SetCurrent, declared.command.Traversing.TheVariants.Walk, declared.command.Traversing.TheVariants.ReleaseIterator, declared.command.Traversing.TheVariants.ReleaseWalker, declared.command.Observing.Observing, declared.command.Observing.TheVariants.CreateObserver, declared.command.Observing.TheVariants.Observe, declared.command.Observing.TheVariants.Disconnect, declared.command.Observing.TheVariants.TakeRecords, declared.command.Observing.TheVariants.Notify, declared.command.Observing.TheVariants.Pending, declared.command.Observing.TheVariants.ReleaseObserver, declared.command.Observing.TheVariants.TakePending, declared.command.Observing.TheVariants.TellObserver, declared.command.Texts.Texts, declared.command.Texts.TheVariants.Normalize, declared.command.Texts.TheVariants.TextContent, declared.command.Texts.TheVariants.SetTextContent, declared.command.Texts.TheVariants.GetData, declared.command.Texts.TheVariants.SetData, declared.command.Texts.TheVariants.AppendData, declared.command.Texts.TheVariants.InsertData, declared.command.Texts.TheVariants.DeleteData, declared.command.Texts.TheVariants.ReplaceData, declared.command.Texts.TheVariants.SubstringData, declared.command.Texts.TheVariants.SplitText, declared.command.Attributes.Attributes, declared.command.Attributes.TheVariants.SetAttribute, declared.command.Attributes.TheVariants.GetAttribute, declared.command.Attributes.TheVariants.HasAttribute, declared.command.Attributes.TheVariants.RemoveAttribute, declared.command.Attributes.TheVariants.ToggleAttribute, declared.command.Attributes.TheVariants.AttributeNames, declared.command.Copying.Copying, declared.command.Copying.TheVariants.ImportNode, declared.command.Copying.TheVariants.CloneNode, declared.command.Copying.TheVariants.IsContaining, declared.command.Copying.TheVariants.IsEqual, declared.command.Copying.TheVariants.ComparePosition, declared.command.Contents.Contents, declared.command.Contents.TheVariants.RangeText, declared.command.Contents.TheVariants.DeleteContents, declared.command.Contents.TheVariants.ExtractContents, declared.command.Contents.TheVariants.CloneContents, declared.command.Contents.TheVariants.InsertNode, declared.command.Contents.TheVariants.SurroundContents, declared.reply.Reply.Reply, Views.making_view, Views.editing_view, Views.asking_view, Views.ranging_view, Views.setting_view, Views.comparing_view, Views.static_ranging_view, Views.traversing_view, Views.observing_view, Views.texts_view, Views.attributes_view, Views.copying_view, Views.contents_view, Views.command_view, SessionViews.SessionView, SessionViews.StandsFor, SessionViews.IsStep, SessionViews.IsAnswered, AnswerBounds.numbered}
-use Rattle.dom_session.specs.declared.command.Command.TheVariants as group
+use Rattle.dom_commands.specs.{declared.command.Command.Command, declared.command.Making.Making, declared.command.Making.TheVariants.NewDocument, declared.command.Making.TheVariants.CreateElement, declared.command.Making.TheVariants.CreateText, declared.command.Making.TheVariants.CreateComment, declared.command.Making.TheVariants.CreatePI, declared.command.Making.TheVariants.CreateDoctype, declared.command.Making.TheVariants.CreateFragment, declared.command.Editing.Editing, declared.command.Editing.TheVariants.InsertBefore, declared.command.Editing.TheVariants.AppendChild, declared.command.Editing.TheVariants.AdoptNode, declared.command.Editing.TheVariants.ReplaceChild, declared.command.Editing.TheVariants.RemoveChild, declared.command.Editing.TheVariants.Remove, declared.command.Editing.TheVariants.ReplaceChildren, declared.command.Editing.TheVariants.Discard, declared.command.Asking.Asking, declared.command.Asking.TheVariants.DescribeNode, declared.command.Asking.TheVariants.Children, declared.command.Asking.TheVariants.Index, declared.command.Asking.TheVariants.Length, declared.command.Asking.TheVariants.Root, declared.command.Asking.TheVariants.Tree, declared.command.Ranging.Ranging, declared.command.Ranging.TheVariants.CreateRange, declared.command.Ranging.TheVariants.CloneRange, declared.command.Ranging.TheVariants.DescribeRange, declared.command.Ranging.TheVariants.ReleaseRange, declared.command.Setting.Setting, declared.command.Setting.TheVariants.SetStart, declared.command.Setting.TheVariants.SetEnd, declared.command.Setting.TheVariants.SetStartBefore, declared.command.Setting.TheVariants.SetStartAfter, declared.command.Setting.TheVariants.SetEndBefore, declared.command.Setting.TheVariants.SetEndAfter, declared.command.Setting.TheVariants.Collapse, declared.command.Setting.TheVariants.SelectNode, declared.command.Setting.TheVariants.SelectNodeContents, declared.command.Comparing.Comparing, declared.command.Comparing.TheVariants.CompareBoundaryPoints, declared.command.Comparing.TheVariants.ComparePoint, declared.command.Comparing.TheVariants.IsPointInRange, declared.command.Comparing.TheVariants.IntersectsNode, declared.command.Comparing.TheVariants.CommonAncestor, declared.command.StaticRanging.StaticRanging, declared.command.StaticRanging.TheVariants.CreateStaticRange, declared.command.StaticRanging.TheVariants.DescribeStaticRange, declared.command.StaticRanging.TheVariants.ReleaseStaticRange, declared.command.Traversing.Traversing, declared.command.Traversing.TheVariants.CreateIterator, declared.command.Traversing.TheVariants.CreateWalker, declared.command.Traversing.TheVariants.DescribeIterator, declared.command.Traversing.TheVariants.NextNode, declared.command.Traversing.TheVariants.PreviousNode, declared.command.Traversing.TheVariants.DescribeWalker, declared.command.Traversing.TheVariants.SetCurrent, declared.command.Traversing.TheVariants.Walk, declared.command.Traversing.TheVariants.ReleaseIterator, declared.command.Traversing.TheVariants.ReleaseWalker, declared.command.Observing.Observing, declared.command.Observing.TheVariants.CreateObserver, declared.command.Observing.TheVariants.Observe, declared.command.Observing.TheVariants.Disconnect, declared.command.Observing.TheVariants.TakeRecords, declared.command.Observing.TheVariants.Notify, declared.command.Observing.TheVariants.Pending, declared.command.Observing.TheVariants.ReleaseObserver, declared.command.Observing.TheVariants.TakePending, declared.command.Observing.TheVariants.TellObserver, declared.command.Texts.Texts, declared.command.Texts.TheVariants.Normalize, declared.command.Texts.TheVariants.TextContent, declared.command.Texts.TheVariants.SetTextContent, declared.command.Texts.TheVariants.GetData, declared.command.Texts.TheVariants.SetData, declared.command.Texts.TheVariants.AppendData, declared.command.Texts.TheVariants.InsertData, declared.command.Texts.TheVariants.DeleteData, declared.command.Texts.TheVariants.ReplaceData, declared.command.Texts.TheVariants.SubstringData, declared.command.Texts.TheVariants.SplitText, declared.command.Attributes.Attributes, declared.command.Attributes.TheVariants.SetAttribute, declared.command.Attributes.TheVariants.GetAttribute, declared.command.Attributes.TheVariants.HasAttribute, declared.command.Attributes.TheVariants.RemoveAttribute, declared.command.Attributes.TheVariants.ToggleAttribute, declared.command.Attributes.TheVariants.AttributeNames, declared.command.Copying.Copying, declared.command.Copying.TheVariants.ImportNode, declared.command.Copying.TheVariants.CloneNode, declared.command.Copying.TheVariants.IsContaining, declared.command.Copying.TheVariants.IsEqual, declared.command.Copying.TheVariants.ComparePosition, declared.command.Contents.Contents, declared.command.Contents.TheVariants.RangeText, declared.command.Contents.TheVariants.DeleteContents, declared.command.Contents.TheVariants.ExtractContents, declared.command.Contents.TheVariants.CloneContents, declared.command.Contents.TheVariants.InsertNode, declared.command.Contents.TheVariants.SurroundContents, declared.reply.Reply.Reply, Views.making_view, Views.editing_view, Views.asking_view, Views.ranging_view, Views.setting_view, Views.comparing_view, Views.static_ranging_view, Views.traversing_view, Views.observing_view, Views.texts_view, Views.attributes_view, Views.copying_view, Views.contents_view, Views.command_view}
+use Rattle.dom_session.specs.{SessionViews.SessionView, SessionViews.StandsFor, SessionViews.IsStep, SessionViews.IsAnswered, AnswerBounds.numbered}
+use Rattle.dom_commands.specs.declared.command.Command.TheVariants as group
 use Rattle.dom_edit.specs.{declared.world.World.World as CodeWorld, Whole.Shows, Whole.IsShown}
 
 -- an answer knows nothing of the limit of a line

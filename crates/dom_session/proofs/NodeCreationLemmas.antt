@@ -5,7 +5,8 @@ use Rattle.dom_model.specs.Definitions.{Label, is_kind, Content, no_content, doc
 use Rattle.dom_model.specs.Worlds.World as model
 use Rattle.dom_model.specs.Commands.Reply as model_reply
 use Rattle.dom_edit.specs.{declared.world.World.World, Whole.IsWhole, Whole.Shows, Whole.Follows}
-use Rattle.dom_session.specs.{declared.brief.Brief.TheVariants.Number, declared.reply.Reply.TheVariants.Brief, AnswerBounds.numbered, SessionViews.IsStep, Refusals.making_refusal}
+use Rattle.dom_commands.specs.{declared.brief.Brief.TheVariants.Number, declared.reply.Reply.TheVariants.Brief}
+use Rattle.dom_session.specs.{AnswerBounds.numbered, SessionViews.IsStep, Refusals.making_refusal}
 use Rattle.dom_session.proofs.GuardedLemmas.{guarded-none, guarded-some, step-follows}
 
 -- what may stand in the way of every new node in a document

@@ -5,7 +5,8 @@ use Rattle.dom_model.specs.Definitions.{is_kind, is_character_data, is_attribute
 use Rattle.dom_model.specs.Worlds.World as model
 use Rattle.dom_model.specs.Commands.Reply as model_reply
 use Rattle.dom_edit.specs.{declared.world.World.World, Whole.Shows, Whole.unwatched}
-use Rattle.dom_session.specs.{Refusals.kind_refusal, declared.reply.Reply.Reply, SessionViews.IsStep}
+use Rattle.dom_commands.specs.{declared.reply.Reply.Reply}
+use Rattle.dom_session.specs.{Refusals.kind_refusal, SessionViews.IsStep}
 use Rattle.dom_session.proofs.{GuardedLemmas.guarded-none, GuardedLemmas.guarded-some, TreeEdits.not-none}
 
 -- the text of a node, by its kind, is read off the forest

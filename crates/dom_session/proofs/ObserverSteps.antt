@@ -8,7 +8,8 @@ use Rattle.dom_model.proofs.PlainLists.Numbers.{same_or, same, apart}
 use Rattle.dom_observe.specs.{ObservedNodes.NamesHeld, ObservedNodes.NamesOnly, Watchers.Watchers, Watchers.Watches, Watchers.queue_in}
 use Rattle.dom_observe.proofs.NamesHeldLemmas.{held-after}
 use Rattle.dom_edit.specs.{declared.world.World.World, Whole.IsWhole, Whole.Shows}
-use Rattle.dom_session.specs.{declared.reply.Reply.Reply, Views.reply_view, SessionViews.IsStep}
+use Rattle.dom_commands.specs.{declared.reply.Reply.Reply, Views.reply_view}
+use Rattle.dom_session.specs.{SessionViews.IsStep}
 use Rattle.dom_session.proofs.{GuardedLemmas.step-follows, GuardedLemmas.step-stays, TreeEdits.not-none}
 
 module _ (v : World) (whole : IsWhole v) where

@@ -5,7 +5,8 @@ use Rattle.dom_model.specs.Definitions.{Command, Bounds, Step, guarded, answer, 
 use Rattle.dom_model.specs.Worlds.World as model
 use Rattle.dom_model.specs.Commands.Reply as model_reply
 use Rattle.dom_edit.specs.declared.world.World.{World}
-use Rattle.dom_session.specs.{declared.reply.Reply.Reply, Refusals.kind_refusal, SessionViews.IsStep, Views.reply_view}
+use Rattle.dom_commands.specs.{declared.reply.Reply.Reply, Views.reply_view}
+use Rattle.dom_session.specs.{Refusals.kind_refusal, SessionViews.IsStep}
 use Rattle.dom_session.proofs.GuardedLemmas.{guarded-some, step-stays}
 
 pub step-other_kind : (v : World) (b : Bounds) (c : Command) (test : Kind → Bool) (n : ℕ) (reply : Reply) (cs : List (Bool × model_reply.Reply)) (s : model.World → Step)

@@ -6,7 +6,8 @@ use Rattle.dom_model.proofs.Soundness.SoundAnswers.{sound-answer}
 use Rattle.dom_ranges.specs.Tables.{RangeTable}
 use Rattle.dom_edit.specs.{declared.world.World.World, Whole.CoversHeld, Whole.IsWhole, Whole.Shows, Whole.IsShown, Whole.Follows, Whole.AreHeld}
 use Rattle.dom_edit.proofs.FollowsLemmas.{whole-sound}
-use Rattle.dom_session.specs.{declared.reply.Reply.Reply, Views.reply_view, SessionViews.IsStep}
+use Rattle.dom_commands.specs.{declared.reply.Reply.Reply, Views.reply_view}
+use Rattle.dom_session.specs.{SessionViews.IsStep}
 use Rattle.dom_session.proofs.GuardedLemmas.{step-follows, step-stays}
 
 -- other live ranges, under the same cover

@@ -8,7 +8,8 @@ use Rattle.dom_model.proofs.Soundness.SoundAnswers.{sound-answer}
 use Rattle.dom_traverse.specs.Items.{iterator_in, walker_in}
 use Rattle.dom_edit.specs.{declared.world.World.World, Whole.IsWhole, Whole.Keeps, Whole.Shows, Whole.IsShown}
 use Rattle.dom_edit.proofs.FollowsLemmas.{whole-sound}
-use Rattle.dom_session.specs.{declared.reply.Reply.Reply, Views.reply_view, SessionViews.IsStep, AnswerBounds.numbered}
+use Rattle.dom_commands.specs.{declared.reply.Reply.Reply, Views.reply_view}
+use Rattle.dom_session.specs.{SessionViews.IsStep, AnswerBounds.numbered}
 use Rattle.dom_session.proofs.{GuardedLemmas.step-follows, TreeEdits.not-none}
 
 -- what follows from what there is, where there is one

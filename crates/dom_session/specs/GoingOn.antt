@@ -1,6 +1,6 @@
 -- Which commands change nothing if they are refused memory, so that the session goes on. Ours.
 use Rattle.std.specs.Prelude.{Bool, true, false, ◌||◌}
-use Rattle.dom_model.specs.Commands.Command.{Command, NewDocument, CreateElement, CreateText, CreateComment, CreatePI, CreateDoctype, CreateFragment, DescribeNode, Children, Index, Length, Root, IsContaining, IsEqual, ComparePosition, TextContent, Tree, GetData, SubstringData, GetAttribute, HasAttribute, AttributeNames, CreateRange, CloneRange, DescribeRange, SetStart, SetEnd, SetStartBefore, SetStartAfter, SetEndBefore, SetEndAfter, Collapse, SelectNode, SelectNodeContents, CompareBoundaryPoints, ComparePoint, IsPointInRange, IntersectsNode, CommonAncestor, RangeText, ReleaseRange, CreateIterator, CreateWalker, DescribeIterator, NextNode, PreviousNode, DescribeWalker, SetCurrent, Walk, CreateObserver, Observe, Disconnect, TakeRecords, Notify, Pending, CreateStaticRange, DescribeStaticRange, ReleaseIterator, ReleaseWalker, ReleaseStaticRange, ReleaseObserver, TakePending, TellObserver}
+use Rattle.dom_model.specs.Commands.Command.{Command, NewDocument, CreateElement, CreateText, CreateComment, CreatePI, CreateDoctype, CreateFragment, DescribeNode, Children, Index, Length, Root, IsContaining, IsEqual, ComparePosition, TextContent, Tree, GetData, SubstringData, GetAttribute, HasAttribute, AttributeNames, CreateRange, CloneRange, DescribeRange, SetStart, SetEnd, SetStartBefore, SetStartAfter, SetEndBefore, SetEndAfter, Collapse, SelectNode, SelectNodeContents, CompareBoundaryPoints, ComparePoint, IsPointInRange, IntersectsNode, CommonAncestor, RangeText, ReleaseRange, CreateIterator, CreateWalker, DescribeIterator, NextNode, PreviousNode, DescribeWalker, SetCurrent, Walk, CreateObserver, Observe, Disconnect, TakeRecords, Notify, Pending, CreateStaticRange, DescribeStaticRange, ReleaseIterator, ReleaseWalker, ReleaseStaticRange, ReleaseObserver, TakePending, TellObserver, InsertBefore, AppendChild, AdoptNode, ReplaceChild, RemoveChild, Remove, ReplaceChildren, Discard, SetData, AppendData, InsertData, DeleteData, ReplaceData, SetAttribute, RemoveAttribute, ToggleAttribute}
 
 -- a command that only reads
 abbrev pub is_question : Command → Bool
@@ -72,6 +72,26 @@ is_all_or_nothing (ReleaseIterator iterator) = true
 is_all_or_nothing (ReleaseWalker walker) = true
 is_all_or_nothing (ReleaseObserver observer) = true
 is_all_or_nothing _ = false
+
+-- a command that changes nothing if it is refused memory while nobody observes
+abbrev pub is_all_or_nothing_unobserved : Command → Bool
+is_all_or_nothing_unobserved (InsertBefore parent node child) = true
+is_all_or_nothing_unobserved (AppendChild parent node) = true
+is_all_or_nothing_unobserved (AdoptNode document node) = true
+is_all_or_nothing_unobserved (ReplaceChild parent node child) = true
+is_all_or_nothing_unobserved (RemoveChild parent child) = true
+is_all_or_nothing_unobserved (Remove node) = true
+is_all_or_nothing_unobserved (ReplaceChildren parent given) = true
+is_all_or_nothing_unobserved (Discard node) = true
+is_all_or_nothing_unobserved (SetData node text) = true
+is_all_or_nothing_unobserved (AppendData node text) = true
+is_all_or_nothing_unobserved (InsertData node offset text) = true
+is_all_or_nothing_unobserved (DeleteData node offset count) = true
+is_all_or_nothing_unobserved (ReplaceData node offset count text) = true
+is_all_or_nothing_unobserved (SetAttribute element name value) = true
+is_all_or_nothing_unobserved (RemoveAttribute element name) = true
+is_all_or_nothing_unobserved (ToggleAttribute element name force) = true
+is_all_or_nothing_unobserved _ = false
 
 -- a command after which the session goes on, also if it is refused memory
 abbrev pub goes_on : Command → Bool

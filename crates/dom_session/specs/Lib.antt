@@ -1,5 +1,3 @@
-pub mod Views
-pub mod Brief
 pub mod SessionViews
 pub mod Refusals
 pub mod AnswerBounds
@@ -12,3 +10,4 @@ pub mod Subtree
 pub mod InUse
 pub mod OutOfMemory
 pub mod GoingOn
+pub mod Sessions

@@ -13,9 +13,10 @@ use Rattle.dom_model.specs.Commands.Reply as model
 use Rattle.dom_edit.specs.declared.world.World.{World}
 use Rattle.dom_edit.specs.declared.refusal.Refusal.{Refusal}
 use Rattle.dom_edit.specs.declared.refusal.Refusal.TheVariants as refusal
-use Rattle.dom_session.specs.declared.brief.Brief.TheVariants.{Dom}
-use Rattle.dom_session.specs.declared.reply.Reply.{Reply}
-use Rattle.dom_session.specs.declared.reply.Reply.TheVariants.{Brief}
+use Rattle.dom_commands.specs.declared.brief.Brief.{Brief as Small}
+use Rattle.dom_commands.specs.declared.brief.Brief.TheVariants.{Dom}
+use Rattle.dom_commands.specs.declared.reply.Reply.{Reply}
+use Rattle.dom_commands.specs.declared.reply.Reply.TheVariants.{Brief}
 
 -- no node of that number
 abbrev pub lacks_node : World → ℕ → Bool
@@ -45,3 +46,8 @@ kind_refusal test v n =
 abbrev pub reply_to : Refusal → Result Reply AllocError
 reply_to (refusal.Dom e) = Ok (Brief (Dom e))
 reply_to refusal.Memory = Err (record {})
+
+-- the same as a small reply
+abbrev pub brief_to : Refusal → Result Small AllocError
+brief_to (refusal.Dom e) = Ok (Dom e)
+brief_to refusal.Memory = Err (record {})

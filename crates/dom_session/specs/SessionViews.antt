@@ -6,8 +6,8 @@ use Rattle.dom_model.specs.Commands.Answer.{Bounds, Step, answer}
 use Rattle.dom_model.specs.Commands.Reply.{is_refusal}
 use Rattle.dom_edit.specs.declared.world.World.{World}
 use Rattle.dom_edit.specs.Whole.{Shows, unwatched}
-use Rattle.dom_session.specs.declared.reply.Reply.{Reply}
-use Rattle.dom_session.specs.Views.{reply_view}
+use Rattle.dom_commands.specs.declared.reply.Reply.{Reply}
+use Rattle.dom_commands.specs.Views.{reply_view}
 
 -- the world of the code, the bounds, and whether memory was wanting once
 pub record SessionView : Type 0 where

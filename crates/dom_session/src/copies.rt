@@ -6,15 +6,14 @@ ghost use Rattle.dom_model.specs.Forests.Forest.{HasNode, size};
 ghost use Rattle.dom_model.specs.Commands.Command.{ImportNode, CloneNode, IsEqual, IsContaining, ComparePosition};
 ghost use Rattle.dom_model.specs.Commands.Guards.{Bounds};
 ghost use Rattle.dom_edit.specs.Whole.{IsShown};
-ghost use Rattle.dom_session.specs.Views.{copying_view};
+ghost use Rattle.dom_commands.specs.Views.{copying_view};
 ghost use Rattle.dom_session.specs.SessionViews.{IsStep};
 ghost use Rattle.dom_session.specs.OutOfMemory.{KeepsWholeWorld};
 ghost use Rattle.dom_session.specs.GoingOn.{goes_on};
 ghost use Rattle.dom_session.specs.AnswerBounds.{numbered};
 
-use crate::brief::Brief;
-use crate::command::Copying;
-use crate::reply::{Answer, Reply, reply_to};
+use crate::refusals::reply_to;
+use dom_commands::{Answer, Brief, Copying, Reply};
 use dom_edit::World;
 use dom_kinds::{DomError, Kind};
 use dom_model::OwnError;

@@ -1,16 +1,15 @@
 //! The answer to each command.
 
 ghost use Rattle.std.specs.Prelude.{◌≡◌, ◌≤◌, IfOk, OnErr, true};
-ghost use Rattle.dom_edit.specs.Whole.{IsShown};
-ghost use Rattle.dom_session.specs.Views.{command_view};
+ghost use Rattle.dom_edit.specs.Whole.{IsShown, IsUnobserved};
+ghost use Rattle.dom_commands.specs.Views.{command_view};
 ghost use Rattle.dom_session.specs.SessionViews.{IsStep};
 ghost use Rattle.dom_session.specs.OutOfMemory.{KeepsWholeWorld, IsAsItWas};
-ghost use Rattle.dom_session.specs.GoingOn.{is_question, goes_on};
+ghost use Rattle.dom_session.specs.GoingOn.{is_question, goes_on, is_all_or_nothing_unobserved};
 ghost use Rattle.dom_session.specs.AnswerBounds.{numbered};
 
 use crate::attributes::change_attributes;
 use crate::character_data::change_texts;
-use crate::command::Command;
 use crate::copies::copy_nodes;
 use crate::live_ranges::act_on_ranges;
 use crate::node_creation::make_nodes;
@@ -19,10 +18,10 @@ use crate::observers::watch;
 use crate::range_contents::change_contents;
 use crate::range_queries::compare;
 use crate::range_setters::set_ranges;
-use crate::reply::Reply;
 use crate::static_ranges::act_on_statics;
 use crate::traversal::traverse;
 use crate::tree_edits::edit_tree;
+use dom_commands::{Command, Reply};
 use dom_edit::World;
 use std::alloc::{AllocError, Global};
 
@@ -42,6 +41,8 @@ pub(crate) fn answered(
         OnErr result (world.new ≡ world.old) }
     ensures goes_on { goes_on (command_view command) ≡ true →
         OnErr result (IsAsItWas world.old world.new) }
+    ensures unobserved { is_all_or_nothing_unobserved (command_view command) ≡ true →
+        IsUnobserved world.old → OnErr result (world.new ≡ world.old) }
 {
     match command {
         Command::Making(command) => Ok(Reply::Brief(make_nodes(world, numbers, alloc, command)?)),

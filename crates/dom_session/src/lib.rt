@@ -8,9 +8,7 @@
 
 mod attributes;
 mod borrowed_data;
-mod brief;
 mod character_data;
-mod command;
 mod copies;
 mod dispatch;
 mod going_on;
@@ -26,7 +24,6 @@ mod range_queries;
 mod range_setters;
 mod read_only;
 mod refusals;
-mod reply;
 mod room;
 mod session;
 mod static_ranges;
@@ -35,22 +32,14 @@ mod traversal;
 mod tree_edits;
 mod tree_rows;
 
-pub use brief::Brief;
-pub use command::{
-    Asking, Attributes, Command, Comparing, Contents, Copying, Editing, Making, Observing, Ranging,
-    Reading, Setting, StaticRanging, Texts, Traversing,
+pub use dom_commands::{
+    Answer, Asking, Attributes, Brief, Command, Comparing, Content, Contents, Copying, Description,
+    DomError, Editing, Filter, IteratorId, Kind, Label, Making, Move, NodeId, Notification,
+    ObserverId, Observing, OwnError, Point, RangeId, Ranging, RawOptions, Reading, Record,
+    RecordType, Reply, Rule, Setting, StaticId, StaticRanging, Texts, Traversing, TreeRow, Units,
+    Verdict, WalkerId, text_of,
 };
-pub use dom_edit::Content;
-pub use dom_kinds::{DomError, Kind, Label};
-pub use dom_model::{Move, OwnError, RecordType, Verdict};
-pub use dom_observe::{Notification, ObserverId, RawOptions, Record};
-pub use dom_point::Point;
-pub use dom_ranges::{RangeId, StaticId};
-pub use dom_traverse::{Filter, IteratorId, Rule, WalkerId};
-pub use dom_tree::NodeId;
-pub use dom_units::{Units, text_of};
 pub use in_use::Counts;
 pub use neighbours::Neighbours;
-pub use reply::{Answer, Description, Reply, TreeRow};
 pub use session::{Ended, Limits, OutOfMemory, Session};
 pub use subtree::{NodeRow, SubtreeNode, SubtreePart};

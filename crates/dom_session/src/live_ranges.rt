@@ -4,14 +4,12 @@ ghost use Rattle.std.specs.Prelude.{◌≡◌, ◌≤◌, IfOk, OnErr};
 ghost use Rattle.dom_model.specs.Commands.Command.{CreateRange, CloneRange, DescribeRange, ReleaseRange};
 ghost use Rattle.dom_model.specs.Commands.Guards.{Bounds};
 ghost use Rattle.dom_edit.specs.Whole.{IsShown};
-ghost use Rattle.dom_session.specs.Views.{ranging_view};
+ghost use Rattle.dom_commands.specs.Views.{ranging_view};
 ghost use Rattle.dom_session.specs.SessionViews.{IsStep, RepliesTo};
 ghost use Rattle.dom_session.specs.OutOfMemory.{KeepsWholeWorld};
 ghost use Rattle.dom_session.specs.AnswerBounds.{numbered};
 
-use crate::brief::Brief;
-use crate::command::Ranging;
-use crate::reply::{Answer, Reply};
+use dom_commands::{Answer, Brief, Ranging, Reply};
 use dom_edit::World;
 use dom_kinds::{DomError, Kind};
 use dom_model::OwnError;

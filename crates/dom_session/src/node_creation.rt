@@ -4,16 +4,15 @@ ghost use Rattle.std.specs.Prelude.{◌≡◌, ◌≤◌, IfOk, option_map, stri
 ghost use Rattle.dom_model.specs.Worlds.World.{document_label};
 ghost use Rattle.dom_model.specs.Commands.AnswerMaking.{doctype_label, closes_instruction};
 ghost use Rattle.dom_model.specs.Commands.Command.{NewDocument, CreateElement, CreateText, CreateComment, CreatePI, CreateDoctype, CreateFragment};
-ghost use Rattle.dom_session.specs.Brief.{reply_of};
-ghost use Rattle.dom_session.specs.Views.{making_view, reply_view};
+ghost use Rattle.dom_commands.specs.Brief.{reply_of};
+ghost use Rattle.dom_commands.specs.Views.{making_view, reply_view};
 ghost use Rattle.dom_edit.specs.Whole.{IsShown};
 ghost use Rattle.dom_session.specs.SessionViews.{IsStep};
 ghost use Rattle.dom_session.specs.OutOfMemory.{KeepsWholeWorld, IsAsItWas};
 ghost use Rattle.dom_session.specs.Refusals.{making_refusal};
 ghost use Rattle.dom_session.specs.AnswerBounds.{numbered};
 
-use crate::brief::Brief;
-use crate::command::Making;
+use dom_commands::{Brief, Making};
 use dom_edit::{Content, World};
 use dom_kinds::{DomError, Kind, Label, is_doctype_name, is_element_name};
 use dom_model::OwnError;

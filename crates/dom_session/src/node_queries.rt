@@ -5,14 +5,12 @@ ghost use Rattle.dom_model.specs.Forests.Forest.{HasNode, children_of};
 ghost use Rattle.dom_model.specs.Commands.Command.{DescribeNode, Children, Index, Length, Root};
 ghost use Rattle.dom_model.specs.Commands.Guards.{Bounds};
 ghost use Rattle.dom_edit.specs.Whole.{IsShown};
-ghost use Rattle.dom_session.specs.Views.{asking_view};
+ghost use Rattle.dom_commands.specs.Views.{asking_view};
 ghost use Rattle.dom_session.specs.SessionViews.{IsStep, RepliesTo};
 ghost use Rattle.dom_session.specs.OutOfMemory.{KeepsWholeWorld};
 
-use crate::brief::Brief;
-use crate::command::Asking;
-use crate::reply::{Answer, Description, Reply};
 use crate::tree_rows::print_tree;
+use dom_commands::{Answer, Asking, Brief, Description, Reply};
 use dom_edit::{Content, World};
 use dom_model::OwnError;
 use dom_tree::{NodeId, Tree};

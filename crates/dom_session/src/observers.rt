@@ -4,14 +4,12 @@ ghost use Rattle.std.specs.Prelude.{◌≡◌, ◌≤◌, IfOk, OnErr};
 ghost use Rattle.dom_model.specs.Commands.Command.{CreateObserver, Observe, Disconnect, TakeRecords, Notify, Pending, ReleaseObserver, TakePending, TellObserver};
 ghost use Rattle.dom_model.specs.Commands.Guards.{Bounds};
 ghost use Rattle.dom_edit.specs.Whole.{IsShown};
-ghost use Rattle.dom_session.specs.Views.{observing_view};
+ghost use Rattle.dom_commands.specs.Views.{observing_view};
 ghost use Rattle.dom_session.specs.SessionViews.{IsStep};
 ghost use Rattle.dom_session.specs.OutOfMemory.{KeepsWholeWorld};
 ghost use Rattle.dom_session.specs.AnswerBounds.{numbered};
 
-use crate::brief::Brief;
-use crate::command::Observing;
-use crate::reply::{Answer, Reply};
+use dom_commands::{Answer, Brief, Observing, Reply};
 use dom_edit::World;
 use dom_model::OwnError;
 use dom_observe::{ObserverId, Observers, RawOptions, resolve_options};

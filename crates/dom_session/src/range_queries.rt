@@ -9,12 +9,10 @@ ghost use Rattle.dom_model.specs.Commands.Command.{CompareBoundaryPoints, Compar
 ghost use Rattle.dom_model.specs.Commands.Guards.{Bounds};
 ghost use Rattle.dom_ranges.specs.Tables.{StandsIn, result_of_check};
 ghost use Rattle.dom_edit.specs.Whole.{IsShown};
-ghost use Rattle.dom_session.specs.Views.{comparing_view};
+ghost use Rattle.dom_commands.specs.Views.{comparing_view};
 ghost use Rattle.dom_session.specs.SessionViews.{IsStep};
 
-use crate::brief::Brief;
-use crate::command::Comparing;
-use crate::reply::{Answer, Reply};
+use dom_commands::{Answer, Brief, Comparing, Reply};
 use dom_edit::{Content, World};
 use dom_kinds::DomError;
 use dom_model::OwnError;

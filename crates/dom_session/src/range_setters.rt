@@ -6,13 +6,11 @@ ghost use Rattle.dom_model.specs.Commands.Command.{SetStart, SetEnd, SetStartBef
 ghost use Rattle.dom_model.specs.Commands.Guards.{Bounds};
 ghost use Rattle.dom_model.specs.Commands.AnswerRanges.{sets_start, sets_end};
 ghost use Rattle.dom_edit.specs.Whole.{IsShown};
-ghost use Rattle.dom_session.specs.Views.{setting_view};
+ghost use Rattle.dom_commands.specs.Views.{setting_view};
 ghost use Rattle.dom_session.specs.SessionViews.{IsStep, StepsAs};
 
-use crate::brief::Brief;
-use crate::command::Setting;
 use crate::node_queries::cache_index;
-use crate::reply::{Answer, Reply};
+use dom_commands::{Answer, Brief, Reply, Setting};
 use dom_edit::World;
 use dom_kinds::DomError;
 use dom_model::OwnError;

@@ -3,15 +3,14 @@
 ghost use Rattle.std.specs.Prelude.{◌≡◌};
 ghost use Rattle.dom_model.specs.Commands.Guards.{Bounds};
 ghost use Rattle.dom_edit.specs.Whole.{IsWhole};
-ghost use Rattle.dom_session.specs.Views.{reading_view};
+ghost use Rattle.dom_commands.specs.Views.{reading_view};
 ghost use Rattle.dom_session.specs.SessionViews.{IsStep, RepliesTo};
 
-use crate::command::Reading;
 use crate::live_ranges::describe_range;
 use crate::node_queries::{index, length, root};
-use crate::reply::Reply;
 use crate::static_ranges::describe_static_range;
 use crate::traversal::{describe_iterator, describe_walker};
+use dom_commands::{Reading, Reply};
 use dom_edit::World;
 
 /// Answers a question that takes no memory.

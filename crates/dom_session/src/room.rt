@@ -2,7 +2,7 @@
 
 ghost use Rattle.std.specs.Prelude.{◌≡◌};
 
-use crate::command::{Command, Texts};
+use dom_commands::{Command, Texts};
 use dom_data::reserve_data;
 use dom_edit::{World, data_in};
 use dom_tree::NodeId;

@@ -1,16 +1,16 @@
 //! One session over one world.
 
-ghost use Rattle.std.specs.Prelude.{◌≡◌, ℕ, ◌≤◌, true, false, length, Err, IsErr, IfOk, OnOk, OnErr};
+ghost use Rattle.std.specs.Prelude.{◌≡◌, ℕ, ◌≤◌, true, false, [], length, Err, IsErr, IfOk, OnOk, OnErr};
 ghost use Rattle.dom_model.specs.Worlds.World.{World as PlainWorld, first_world};
 ghost use Rattle.dom_model.specs.Forests.Forest.{children_of};
 ghost use Rattle.dom_model.specs.Commands.Command.{CreateElement, CreateText, NextNode, PreviousNode, Walk, HasAttribute};
 ghost use Rattle.dom_model.specs.Commands.Reply.{is_refusal};
 ghost use Rattle.dom_model.specs.Commands.Answer.{answer};
-ghost use Rattle.dom_session.specs.Brief.{reply_of};
-ghost use Rattle.dom_session.specs.Views.{command_view, making_view, editing_view, reading_view, reply_view};
+ghost use Rattle.dom_commands.specs.Brief.{reply_of};
+ghost use Rattle.dom_commands.specs.Views.{command_view, making_view, editing_view, reading_view, reply_view};
 ghost use Rattle.dom_session.specs.SessionViews.{StandsFor, IsAnswered, held_world};
 ghost use Rattle.dom_session.specs.OutOfMemory.{IsLeft, IsAsBefore};
-ghost use Rattle.dom_session.specs.GoingOn.{is_question, goes_on};
+ghost use Rattle.dom_session.specs.GoingOn.{is_question, goes_on, is_all_or_nothing_unobserved};
 ghost use Rattle.dom_session.specs.SessionBounds.{bounds_of};
 ghost use Rattle.dom_session.specs.InUse.{in_use_of, in_use_in};
 ghost use Rattle.dom_session.specs.Neighbours.{links_in, first_child_in, last_child_in, child_in, child_count_in, laid_over};
@@ -19,19 +19,17 @@ ghost use Rattle.dom_session.specs.Subtree.{part_in, laid_in};
 ghost use Rattle.dom_attrs.specs.Entries.{attribute_at};
 
 use crate::attributes::has_attribute;
-use crate::brief::Brief;
-use crate::command::{Command, Editing, Making, Reading};
 use crate::dispatch::answered;
-use crate::going_on::goes_on;
+use crate::going_on::{goes_on, goes_on_unobserved};
 use crate::in_use::{self, Counts};
 use crate::neighbours::{self, Neighbours};
 use crate::node_creation::{create_element, create_text, make_nodes};
-use crate::reply::Reply;
 use crate::room::make_room;
 use crate::subtree::{self, NodeRow, SubtreePart};
 use crate::traversal::{next_node, previous_node, walk};
 use crate::tree_edits::edit_tree;
 use crate::{borrowed_data, read_only};
+use dom_commands::{Brief, Command, Editing, Making, Reading, Reply};
 use dom_edit::World;
 use dom_kinds::Label;
 use dom_model::{Move, OwnError};
@@ -133,6 +131,8 @@ impl Session {
             OnErr result (IsAsBefore self.old self.new) }
         ensures unchanged { goes_on (command_view command) ≡ false →
             result ≡ Err OutOfMemory.Refused → self.new ≡ self.old }
+        ensures unobserved { is_all_or_nothing_unobserved (command_view command) ≡ true →
+            self.old.world.observers.nodes ≡ [] → OnErr result (self.new ≡ self.old) }
         ensures stays_ended { self.old.ended ≡ true → IsErr result }
         ensures bounds { self.new.bounds ≡ self.old.bounds }
     {
@@ -143,10 +143,14 @@ impl Session {
             return Err(OutOfMemory::Refused);
         }
         let stays_open = goes_on(&command);
+        let is_unobserved = goes_on_unobserved(&self.world, &command);
         match answered(&mut self.world, self.limits.numbers, self.alloc, command) {
             Ok(reply) => Ok(reply),
             Err(_) => {
                 if stays_open {
+                    return Err(OutOfMemory::Refused);
+                }
+                if is_unobserved {
                     return Err(OutOfMemory::Refused);
                 }
                 self.ended = true;
@@ -242,26 +246,35 @@ impl Session {
         Ok(reply)
     }
 
-    /// Applies an edit of the tree as `apply` does, with fewer arguments to pass.
+    /// Applies an edit of the tree as `apply` does, with fewer arguments to pass. If nobody observes, it never ends a session.
     #[inline(always)]
-    pub fn edit(&mut self, command: Editing) -> Result<Brief, Ended>
+    pub fn edit(&mut self, command: Editing) -> Result<Brief, OutOfMemory>
         ensures answers { IfOk result
             (λ reply. (w : PlainWorld) → StandsFor self.old w →
             IsAnswered (reply_of reply) w self.old self.new (editing_view command)) }
         ensures refused { IfOk result (λ reply. is_refusal (reply_view (reply_of reply)) ≡ true →
             self.new ≡ self.old) }
         ensures open { OnOk result (self.new.ended ≡ false) }
-        ensures ended { OnErr result (self.new.ended ≡ true) }
+        ensures goes_on { result ≡ Err OutOfMemory.Refused → self.new.ended ≡ false }
+        ensures ended { result ≡ Err OutOfMemory.Ended → self.new.ended ≡ true }
+        ensures same { result ≡ Err OutOfMemory.Refused → IsAsBefore self.old self.new }
         ensures left { OnErr result (IsLeft self.old self.new) }
+        ensures unchanged { result ≡ Err OutOfMemory.Refused → self.new ≡ self.old }
+        ensures unobserved { self.old.world.observers.nodes ≡ [] →
+            OnErr result (self.new ≡ self.old) }
         ensures stays_ended { self.old.ended ≡ true → IsErr result }
         ensures bounds { self.new.bounds ≡ self.old.bounds }
     {
         if self.ended {
-            return Err(Ended);
+            return Err(OutOfMemory::Ended);
         }
+        let is_unobserved = self.world.observers.is_idle();
         let Ok(reply) = edit_tree(&mut self.world, self.alloc, command) else {
+            if is_unobserved {
+                return Err(OutOfMemory::Refused);
+            }
             self.ended = true;
-            return Err(Ended);
+            return Err(OutOfMemory::Ended);
         };
         Ok(reply)
     }

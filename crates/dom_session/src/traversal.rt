@@ -5,15 +5,13 @@ ghost use Rattle.dom_model.specs.Commands.Command.{CreateIterator, CreateWalker,
 ghost use Rattle.dom_model.specs.Commands.Guards.{Bounds};
 ghost use Rattle.dom_model.specs.Commands.Reply.{Done, MaybeNumber};
 ghost use Rattle.dom_edit.specs.Whole.{IsShown};
-ghost use Rattle.dom_session.specs.Brief.{reply_of};
-ghost use Rattle.dom_session.specs.Views.{traversing_view, reply_view};
+ghost use Rattle.dom_commands.specs.Brief.{reply_of};
+ghost use Rattle.dom_commands.specs.Views.{traversing_view, reply_view};
 ghost use Rattle.dom_session.specs.SessionViews.{IsStep, RepliesTo};
 ghost use Rattle.dom_session.specs.OutOfMemory.{KeepsWholeWorld};
 ghost use Rattle.dom_session.specs.AnswerBounds.{numbered};
 
-use crate::brief::Brief;
-use crate::command::Traversing;
-use crate::reply::{Answer, Reply};
+use dom_commands::{Answer, Brief, Reply, Traversing};
 use dom_edit::World;
 use dom_model::{Move, OwnError};
 use dom_traverse::{Filter, IteratorId, WalkerId};

@@ -7,15 +7,15 @@ ghost use Rattle.dom_model.specs.Forests.Nodes.{is_of_kind};
 ghost use Rattle.dom_model.specs.Commands.AnswerTree.{is_child_node};
 ghost use Rattle.dom_model.specs.Commands.Command.{InsertBefore, AppendChild, AdoptNode, ReplaceChild, RemoveChild, Remove, ReplaceChildren, Discard};
 ghost use Rattle.dom_model.specs.Commands.Guards.{Bounds};
-ghost use Rattle.dom_edit.specs.Whole.{IsWhole, IsShown};
-ghost use Rattle.dom_session.specs.Brief.{reply_of};
-ghost use Rattle.dom_session.specs.Views.{editing_view};
+ghost use Rattle.dom_edit.specs.Whole.{IsWhole, IsUnobserved, IsShown};
+ghost use Rattle.dom_commands.specs.Brief.{reply_of};
+ghost use Rattle.dom_commands.specs.Views.{editing_view};
 ghost use Rattle.dom_session.specs.SessionViews.{IsStep};
 ghost use Rattle.dom_session.specs.OutOfMemory.{KeepsWholeWorld};
 ghost use Rattle.dom_session.specs.Refusals.{lacks_given};
 
-use crate::brief::{Brief, brief_to};
-use crate::command::Editing;
+use crate::refusals::brief_to;
+use dom_commands::{Brief, Editing};
 use dom_edit::World;
 use dom_kinds::{DomError, Kind, may_be_parent};
 use dom_model::OwnError;
@@ -52,6 +52,7 @@ pub(crate) fn insert_before(
     ensures step { IfOk result (λ reply. (b : Bounds) →
         IsStep world.old world.new b (InsertBefore parent node child) (reply_of reply)) }
     ensures left { OnErr result (KeepsWholeWorld world.old world.new) }
+    ensures unobserved { IsUnobserved world.old → OnErr result (world.new ≡ world.old) }
 {
     if !world.tree.holds(parent) || !world.tree.holds(node) || !holds_given(world, &child) {
         return Ok(Brief::Own(OwnError::NoSuchObject));
@@ -73,6 +74,7 @@ fn append_any(
     ensures step { IfOk result (λ reply. (b : Bounds) →
         IsStep world.old world.new b (AppendChild parent node) (reply_of reply)) }
     ensures left { OnErr result (KeepsWholeWorld world.old world.new) }
+    ensures unobserved { IsUnobserved world.old → OnErr result (world.new ≡ world.old) }
 {
     if !world.tree.holds(parent) || !world.tree.holds(node) {
         return Ok(Brief::Own(OwnError::NoSuchObject));
@@ -95,6 +97,7 @@ pub(crate) fn append_child(
     ensures step { IfOk result (λ reply. (b : Bounds) →
         IsStep world.old world.new b (AppendChild parent node) (reply_of reply)) }
     ensures left { OnErr result (KeepsWholeWorld world.old world.new) }
+    ensures unobserved { IsUnobserved world.old → OnErr result (world.new ≡ world.old) }
 {
     if world.append_leaf(parent, node) {
         return Ok(Brief::Number(node.number()));
@@ -114,6 +117,7 @@ pub(crate) fn replace_child(
     ensures step { IfOk result (λ reply. (b : Bounds) →
         IsStep world.old world.new b (ReplaceChild parent node child) (reply_of reply)) }
     ensures left { OnErr result (KeepsWholeWorld world.old world.new) }
+    ensures unobserved { IsUnobserved world.old → OnErr result (world.new ≡ world.old) }
 {
     if !world.tree.holds(parent) || !world.tree.holds(node) || !world.tree.holds(child) {
         return Ok(Brief::Own(OwnError::NoSuchObject));
@@ -134,6 +138,7 @@ pub(crate) fn remove_child(
     ensures step { IfOk result (λ reply. (b : Bounds) →
         IsStep world.old world.new b (RemoveChild parent child) (reply_of reply)) }
     ensures left { OnErr result (KeepsWholeWorld world.old world.new) }
+    ensures unobserved { IsUnobserved world.old → OnErr result (world.new ≡ world.old) }
 {
     if !world.tree.holds(parent) || !world.tree.holds(child) {
         return Ok(Brief::Own(OwnError::NoSuchObject));
@@ -150,6 +155,7 @@ pub(crate) fn remove(world: &mut World, node: NodeId) -> Result<Brief, AllocErro
     ensures step { IfOk result (λ reply. (b : Bounds) →
         IsStep world.old world.new b (Remove node) (reply_of reply)) }
     ensures left { OnErr result (KeepsWholeWorld world.old world.new) }
+    ensures unobserved { IsUnobserved world.old → OnErr result (world.new ≡ world.old) }
 {
     if !world.tree.holds(node) {
         return Ok(Brief::Own(OwnError::NoSuchObject));
@@ -172,6 +178,7 @@ pub(crate) fn replace_children(
     ensures step { IfOk result (λ reply. (b : Bounds) →
         IsStep world.old world.new b (ReplaceChildren parent node) (reply_of reply)) }
     ensures left { OnErr result (KeepsWholeWorld world.old world.new) }
+    ensures unobserved { IsUnobserved world.old → OnErr result (world.new ≡ world.old) }
 {
     if !world.tree.holds(parent) || !holds_given(world, &node) {
         return Ok(Brief::Own(OwnError::NoSuchObject));
@@ -195,6 +202,7 @@ pub(crate) fn adopt_node(
     ensures step { IfOk result (λ reply. (b : Bounds) →
         IsStep world.old world.new b (AdoptNode document node) (reply_of reply)) }
     ensures left { OnErr result (KeepsWholeWorld world.old world.new) }
+    ensures unobserved { IsUnobserved world.old → OnErr result (world.new ≡ world.old) }
 {
     if !world.tree.holds(document) || !world.tree.holds(node) {
         return Ok(Brief::Own(OwnError::NoSuchObject));
@@ -235,6 +243,7 @@ pub(crate) fn edit_tree(
     ensures step { IfOk result (λ reply. (b : Bounds) →
         IsStep world.old world.new b (editing_view command) (reply_of reply)) }
     ensures left { OnErr result (KeepsWholeWorld world.old world.new) }
+    ensures unobserved { IsUnobserved world.old → OnErr result (world.new ≡ world.old) }
 {
     match command {
         Editing::InsertBefore(parent, node, child) => insert_before(

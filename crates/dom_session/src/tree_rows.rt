@@ -5,13 +5,12 @@ ghost use Rattle.dom_model.specs.Forests.Forest.{HasNode, entry_in};
 ghost use Rattle.dom_model.specs.Commands.Answer.{tree_rows};
 ghost use Rattle.dom_model.specs.Commands.Guards.{Bounds};
 ghost use Rattle.dom_model.specs.Commands.Command.{Tree as TreeCommand};
-ghost use Rattle.dom_session.specs.Views.{reply_view};
+ghost use Rattle.dom_commands.specs.Views.{reply_view};
 ghost use Rattle.dom_session.specs.SessionViews.{IsStep};
 ghost use Rattle.dom_session.specs.TreeRows.{row_of_node};
 
-use crate::brief::Brief;
-use crate::reply::{Answer, Reply, TreeRow};
 use dom_clone::{Waiting, wait_for};
+use dom_commands::{Answer, Brief, Reply, TreeRow};
 use dom_edit::{Content, World};
 use dom_model::OwnError;
 use dom_tree::{NodeId, Tree};

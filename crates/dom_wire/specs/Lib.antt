@@ -2,4 +2,3 @@ pub mod Shapes
 pub mod Rows
 pub mod Reads
 pub mod Prints
-pub mod Sessions

@@ -3,8 +3,8 @@ use Rattle.std.specs.Prelude.{◌≡◌, Option, Some, None, Result, Ok, Err}
 use Rattle.dom_model.specs.Commands.Command as model
 use Rattle.dom_model.specs.declared.OwnError.{OwnError}
 use Rattle.dom_model.specs.declared.OwnError.TheVariants.{BadArguments}
-use Rattle.dom_session.specs.declared.command.Command.{Command}
-use Rattle.dom_session.specs.Views.{command_view}
+use Rattle.dom_commands.specs.declared.command.Command.{Command}
+use Rattle.dom_commands.specs.Views.{command_view}
 use Rattle.dom_wire.specs.declared.read_error.ReadError.{ReadError}
 use Rattle.dom_wire.specs.declared.read_error.ReadError.TheVariants.{Own, Memory}
 

@@ -12,8 +12,8 @@ use crate::filters::{course_in, rules_in};
 use crate::options::options_in;
 use crate::read_error::ReadError;
 use crate::texts::{number_in, text_in};
+use dom_commands::Units;
 use dom_model::OwnError;
-use dom_session::Units;
 use serde_json::Value;
 use std::alloc::Global;
 

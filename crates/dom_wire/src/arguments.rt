@@ -3,7 +3,7 @@
 ghost use Rattle.std.specs.Prelude.{◌≡◌, ◌<◌, ◌+◌, [], map, slice_index, slice_index_or, slice_set, string_bytes};
 ghost use Rattle.dom_model.specs.MutationObservers.GivenOptions.{no_options};
 
-use dom_session::{Filter, Move, NodeId, Point, RawOptions, Rule, Units};
+use dom_commands::{Filter, Move, NodeId, Point, RawOptions, Rule, Units};
 use std::alloc::Global;
 use std::mem;
 

@@ -5,7 +5,7 @@ ghost use Rattle.dom_model.specs.Commands.Table.{whole_table};
 ghost use Rattle.dom_wire.specs.Rows.{row_of, is_of_length};
 
 use crate::arguments::{Arguments, Shape};
-use dom_session::{
+use dom_commands::{
     Asking, Attributes, Command, Comparing, Contents, Copying, Editing, IteratorId, Making, NodeId,
     ObserverId, Observing, RangeId, Ranging, Setting, StaticId, StaticRanging, Texts, Traversing,
     WalkerId,
@@ -215,7 +215,7 @@ pub(crate) fn names_of_length(length: usize) -> &'static [Name]
 }
 
 impl Name {
-    ghost use Rattle.dom_session.specs.Views.{command_view};
+    ghost use Rattle.dom_commands.specs.Views.{command_view};
     ghost use Rattle.dom_wire.specs.Shapes.{shape_view, arguments_view};
 
     /// Returns the name as text.

@@ -11,8 +11,8 @@ ghost use Rattle.dom_wire.specs.Rows.{row_of};
 use crate::argument_decoder::arguments_of;
 use crate::command_names::{Name, names_of_length};
 use crate::read_error::ReadError;
+use dom_commands::Command;
 use dom_model::OwnError;
-use dom_session::Command;
 use serde_json::Value;
 use std::alloc::Global;
 

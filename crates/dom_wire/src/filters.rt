@@ -6,8 +6,8 @@ ghost use Rattle.dom_model.specs.Commands.Line.{named_in, verdict_names, move_na
 ghost use Rattle.dom_wire.specs.Reads.{Decodes};
 
 use crate::read_error::ReadError;
+use dom_commands::{Move, Rule, Verdict};
 use dom_model::OwnError;
-use dom_session::{Move, Rule, Verdict};
 use serde_json::Value;
 use std::alloc::Global;
 

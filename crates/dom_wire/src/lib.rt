@@ -15,8 +15,7 @@ mod rows;
 mod texts;
 mod values;
 
-/// The session's types that lines are read for and printed from.
 pub use command_reader::read_line;
-pub use dom_session::{Brief, Command, Ended, Limits, OutOfMemory, OwnError, Reply, Session};
+pub use dom_commands::{Brief, Command, OwnError, Reply};
 pub use read_error::ReadError;
 pub use reply_printer::write_reply;

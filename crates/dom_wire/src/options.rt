@@ -8,8 +8,8 @@ ghost use Rattle.dom_observe.specs.Names.{names_of};
 ghost use Rattle.dom_wire.specs.Reads.{Decodes};
 
 use crate::read_error::ReadError;
+use dom_commands::RawOptions;
 use dom_model::OwnError;
-use dom_session::RawOptions;
 use serde_json::Value;
 use std::alloc::Global;
 

@@ -10,8 +10,8 @@ ghost use Rattle.dom_model.specs.Commands.Printed.{or_null, number_json, list_js
 ghost use Rattle.dom_wire.specs.Prints.{tokens_of, tokens_of_all, Adds};
 
 use crate::values::write_maybe_node;
+use dom_commands::{Description, Kind, Label, NodeId, Point};
 use dom_kinds::NodeType;
-use dom_session::{Description, Kind, Label, NodeId, Point};
 use json::Writer;
 use std::alloc::AllocError;
 

@@ -6,7 +6,7 @@ ghost use Rattle.dom_model.specs.Commands.Printed.{or_null, number_json, numbers
 ghost use Rattle.dom_wire.specs.Prints.{tokens_of, tokens_of_all, Adds};
 
 use crate::values::{write_maybe_name, write_maybe_node, write_maybe_units, write_nodes};
-use dom_session::{Notification, Record, RecordType};
+use dom_commands::{Notification, Record, RecordType};
 use json::Writer;
 use std::alloc::{AllocError, Global};
 

@@ -4,7 +4,7 @@ ghost use Rattle.std.specs.Prelude.{◌≡◌, [], ◌∷◌, IfOk, codes};
 ghost use Rattle.json.specs.Token.{string, key};
 ghost use Rattle.dom_model.specs.Commands.Refusal.{name_of_own};
 ghost use Rattle.dom_model.specs.Commands.Printed.{reply_line, reply_json, answer_json};
-ghost use Rattle.dom_session.specs.Views.{reply_view, brief_view, answer_view};
+ghost use Rattle.dom_commands.specs.Views.{reply_view, brief_view, answer_view};
 ghost use Rattle.dom_wire.specs.Prints.{tokens_of, Adds};
 
 use crate::position_printer::{
@@ -15,9 +15,9 @@ use crate::rows::write_rows;
 use crate::values::{
     write_maybe_number, write_maybe_units, write_names, write_numbers, write_order, write_units,
 };
+use dom_commands::{Answer, Brief, Reply};
 use dom_kinds::Exception;
 use dom_model::OwnError;
-use dom_session::{Answer, Brief, Reply};
 use json::Writer;
 use std::alloc::{AllocError, Global};
 

@@ -6,8 +6,8 @@ ghost use Rattle.dom_model.specs.Commands.Printed.{attribute_json, row_json, det
 ghost use Rattle.dom_wire.specs.Prints.{tokens_of, tokens_of_all, Adds};
 
 use crate::values::write_units;
+use dom_commands::{Content, Kind, Label, TreeRow, Units};
 use dom_kinds::NodeType;
-use dom_session::{Content, Kind, Label, TreeRow, Units};
 use json::Writer;
 use std::alloc::{AllocError, Global};
 

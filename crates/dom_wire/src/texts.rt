@@ -6,8 +6,8 @@ ghost use Rattle.dom_model.specs.Commands.Line.{number_in, unit_in, each_item, t
 ghost use Rattle.dom_wire.specs.Reads.{Decodes};
 
 use crate::read_error::ReadError;
+use dom_commands::Units;
 use dom_model::OwnError;
-use dom_session::Units;
 use serde_json::Value;
 use std::alloc::Global;
 

@@ -6,7 +6,7 @@ ghost use Rattle.dom_model.specs.Commands.Printed.{or_null, number_json, numbers
 ghost use Rattle.dom_observe.specs.Names.{name_of};
 ghost use Rattle.dom_wire.specs.Prints.{tokens_of, Adds};
 
-use dom_session::{NodeId, Units, text_of};
+use dom_commands::{NodeId, Units, text_of};
 use json::Writer;
 use std::alloc::{AllocError, Global};
 use std::cmp::Ordering;

@@ -194,9 +194,14 @@ pub(crate) fn remove_child(
     world.remove_child(parent, child)
 }
 
-// The child is removed, even if the call is out of memory.
+// The child is removed. If memory is refused it stays, and it tries once more.
 const A_CHILD_LEAVES: &[Row] = &[
     Row::Try(Call::RemoveChild(1, 3)),
+    Row::Then(
+        When::Refused,
+        &[Fact::Held(13), Fact::Children(1, &[2, 3, 5])],
+    ),
+    Row::Again(Call::RemoveChild(1, 3)),
     Row::Then(
         When::Always,
         &[
@@ -223,9 +228,14 @@ pub(crate) fn remove(rt: &impl Abort, world: &mut World, node: u32) -> Result<()
     Ok(world.remove(node)?)
 }
 
-// Removes Text 8, even if the call is out of memory, and appends it elsewhere. If memory is refused, it tries once more.
+// Removes Text 8, and appends it elsewhere. If memory is refused, the Text stays, and it tries once more.
 const A_NODE_LEAVES: &[Row] = &[
     Row::Try(Call::Remove(8)),
+    Row::Then(
+        When::Refused,
+        &[Fact::Held(13), Fact::Children(6, &[7, 8, 9])],
+    ),
+    Row::Again(Call::Remove(8)),
     Row::Then(
         When::Always,
         &[

@@ -20,25 +20,28 @@ const BEGIN: Part = (
     ],
 );
 
+// No record is queued for observer 0, and nobody is pending.
+const NOTHING: &[Fact] = &[Fact::Waiting(0, 0), Fact::Pending(0, None)];
+
 // Removes node 1 from node 0.
 const LEAVE: Part = (1, &[Row::Do(Call::Leave)]);
 
-// Changes the data of node 0. If it is refused, one record may be queued nevertheless.
+// Changes the data of node 0. If it is refused, no record is queued, and nobody is pending.
 const CHANGE_THE_TOP: Part = (
     1,
     &[
         Row::Try(Call::ChangeData(0)),
-        Row::Then(When::Refused, &[Fact::AtMostOne(0)]),
+        Row::Then(When::Refused, NOTHING),
         Row::Again(Call::ChangeData(0)),
     ],
 );
 
-// Changes the data of node 1. If it is refused, one record may be queued nevertheless.
+// Changes the data of node 1. If it is refused, no record is queued, and nobody is pending.
 const CHANGE: Part = (
     1,
     &[
         Row::Try(Call::ChangeData(1)),
-        Row::Then(When::Refused, &[Fact::AtMostOne(0)]),
+        Row::Then(When::Refused, NOTHING),
         Row::Again(Call::ChangeData(1)),
     ],
 );
@@ -149,7 +152,7 @@ const WHAT_RECORDS_NAME: Part = (
     &[
         Row::Do(Call::Watch(0, 0, Watched::Children)),
         Row::Try(Call::TellOfLeaving),
-        Row::Then(When::Refused, &[Fact::AtMostOne(0)]),
+        Row::Then(When::Refused, NOTHING),
         Row::Again(Call::TellOfLeaving),
         Row::Then(
             When::Always,
@@ -196,19 +199,6 @@ const BEGIN_MANY: Part = (
     ],
 );
 
-// If it is refused, some of them may have the record nevertheless.
-const AT_MOST_ONE_EACH: &[Fact] = &[
-    Fact::AtMostOne(0),
-    Fact::AtMostOne(1),
-    Fact::AtMostOne(2),
-    Fact::AtMostOne(3),
-    Fact::AtMostOne(4),
-    Fact::AtMostOne(5),
-    Fact::AtMostOne(6),
-    Fact::AtMostOne(7),
-    Fact::AtMostOne(8),
-];
-
 const ONE_EACH: &[Fact] = &[
     Fact::Waiting(0, 1),
     Fact::Waiting(1, 1),
@@ -221,6 +211,7 @@ const ONE_EACH: &[Fact] = &[
     Fact::Waiting(8, 1),
 ];
 
+// No record is queued for any of them.
 const NONE_EACH: &[Fact] = &[
     Fact::Waiting(0, 0),
     Fact::Waiting(1, 0),
@@ -233,12 +224,13 @@ const NONE_EACH: &[Fact] = &[
     Fact::Waiting(8, 0),
 ];
 
-// Changes the data of node 1.
+// Changes the data of node 1. If it is refused, no record is queued, and nobody is pending.
 const CHANGE_FOR_MANY: Part = (
     1,
     &[
         Row::Try(Call::ChangeData(1)),
-        Row::Then(When::Refused, AT_MOST_ONE_EACH),
+        Row::Then(When::Refused, NONE_EACH),
+        Row::Then(When::Refused, &[Fact::Pending(0, None)]),
         Row::Again(Call::ChangeData(1)),
     ],
 );
@@ -262,6 +254,32 @@ const A_NODE_LEAVES_MANY: &[Part] = &[
 #[test]
 fn a_node_leaves_many(rt: HostRuntime) -> Result<(), Fail> {
     played(&rt, rt.alloc(), A_NODE_LEAVES_MANY)
+}
+
+// Changes the data of node 0 twice. If the second change is refused, each observer has the record of the first, and is pending in its turn.
+const EARLIER_RECORDS_STAY: &[Part] = &[
+    BEGIN_MANY,
+    (
+        1,
+        &[
+            Row::Do(Call::ChangeData(0)),
+            Row::Try(Call::ChangeData(0)),
+            Row::Then(When::Refused, ONE_EACH),
+            Row::Then(
+                When::Always,
+                &[
+                    Fact::Pending(0, Some(0)),
+                    Fact::Pending(8, Some(8)),
+                    Fact::Pending(9, None),
+                ],
+            ),
+        ],
+    ),
+];
+
+#[test]
+fn earlier_records_stay(rt: HostRuntime) -> Result<(), Fail> {
+    played(&rt, rt.alloc(), EARLIER_RECORDS_STAY)
 }
 
 // Observers are made and released, and no number is reused. Each of two thousand is made and released. Then two are made, and the second moves into
@@ -336,7 +354,8 @@ const THE_OTHERS_ARE_TOLD_IN_ORDER: &[Part] = &[
         1,
         &[
             Row::Try(Call::ChangeData(0)),
-            Row::Then(When::Refused, AT_MOST_ONE_EACH),
+            Row::Then(When::Refused, NONE_EACH),
+            Row::Then(When::Refused, &[Fact::Pending(0, None)]),
             Row::Again(Call::ChangeData(0)),
             Row::Once(Call::Release(3)),
             Row::Then(
@@ -360,7 +379,7 @@ fn the_others_are_told_in_order(rt: HostRuntime) -> Result<(), Fail> {
 }
 
 // Disconnects some observers of a node, from the middle, the front and the end of its list, and registers one of them again. The observers are
-// notified in the order of their registrations. If it is refused, some may have the record nevertheless.
+// notified in the order of their registrations.
 const SOME_LET_GO_OF_A_NODE: &[Part] = &[
     BEGIN_MANY,
     (
@@ -372,7 +391,8 @@ const SOME_LET_GO_OF_A_NODE: &[Part] = &[
             Row::Then(When::Always, &[Fact::Counts(9, 6)]),
             Row::Do(Call::Watch(4, 0, Watched::DataBelow)),
             Row::Try(Call::ChangeData(0)),
-            Row::Then(When::Refused, AT_MOST_ONE_EACH),
+            Row::Then(When::Refused, NONE_EACH),
+            Row::Then(When::Refused, &[Fact::Pending(0, None)]),
             Row::Again(Call::ChangeData(0)),
             Row::Then(
                 When::Always,
@@ -417,15 +437,15 @@ const NAMES_ARE_FOUND: &[Part] = &[
         1,
         &[
             Row::Try(Call::ChangeAttribute(0, "a")),
-            Row::Then(When::Refused, &[Fact::AtMostOne(1)]),
+            Row::Then(When::Refused, &[Fact::Waiting(1, 0)]),
             Row::Again(Call::ChangeAttribute(0, "a")),
             Row::Then(When::Always, &[Fact::Waiting(0, 0), Fact::Waiting(1, 1)]),
             Row::Try(Call::ChangeAttribute(0, "j")),
-            Row::Then(When::Refused, &[Fact::AtMostOne(1)]),
+            Row::Then(When::Refused, &[Fact::Waiting(1, 0)]),
             Row::Again(Call::ChangeAttribute(0, "j")),
             Row::Then(When::Always, &[Fact::Waiting(0, 0), Fact::Waiting(1, 1)]),
             Row::Try(Call::ChangeAttribute(0, "k")),
-            Row::Then(When::Refused, &[Fact::AtMostOne(0)]),
+            Row::Then(When::Refused, &[Fact::Waiting(0, 0)]),
             Row::Again(Call::ChangeAttribute(0, "k")),
             Row::Then(When::Always, &[Fact::Waiting(0, 1), Fact::Waiting(1, 0)]),
             Row::Do(Call::ChangeAttribute(0, "ab")),

@@ -71,8 +71,6 @@ pub enum Fact {
     Named(u32, bool),
     /// How many records are queued for an observer. They are taken.
     Waiting(u32, usize),
-    /// At most one record is queued for an observer. It is taken.
-    AtMostOne(u32),
     /// One record is queued for an observer, with a target and an old value. It is taken.
     One(u32, u32, &'static str),
 }
@@ -380,7 +378,6 @@ fn expect(rt: &impl Abort, observers: &mut Observers, tree: &Tree<u8>, fact: &Fa
             assert_eq!(rt; observers.refers(tree, node), named);
         }
         Fact::Waiting(number, count) => assert_eq!(rt; taken(rt, observers, number).len(), count),
-        Fact::AtMostOne(number) => assert!(rt; taken(rt, observers, number).len() < 2),
         Fact::One(number, target, old) => {
             expect_one(rt, taken(rt, observers, number).as_slice(), target, old);
         }

@@ -3,8 +3,8 @@ use Rattle.std.specs.Prelude.{◌≡◌}
 use Rattle.dom_model.specs.Worlds.World as model
 use Rattle.dom_model.specs.Commands.Command.{Command}
 use Rattle.dom_model.specs.Commands.Answer.{Bounds, answer}
-use Rattle.dom_session.specs.declared.reply.Reply.{Reply}
-use Rattle.dom_session.specs.Views.{reply_view}
+use Rattle.dom_commands.specs.declared.reply.Reply.{Reply}
+use Rattle.dom_commands.specs.Views.{reply_view}
 use Rattle.dom_session.specs.SessionViews.{SessionView, StandsFor}
 
 -- the world after a command

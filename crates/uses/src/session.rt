@@ -5,7 +5,7 @@ ghost use Rattle.dom_model.specs.Commands.Command.{SetData, GetData};
 ghost use Rattle.dom_model.specs.Commands.Reply as model;
 ghost use Rattle.dom_model.specs.Worlds.World.{World};
 ghost use Rattle.dom_session.specs.SessionViews.{StandsFor};
-ghost use Rattle.dom_session.specs.Views.{reply_view};
+ghost use Rattle.dom_commands.specs.Views.{reply_view};
 ghost use Rattle.uses.specs.Turns.{AreAnswered};
 
 use dom_session::{Command, Limits, Making, NodeId, OutOfMemory, Reply, Session, Texts, Units};

@@ -82,7 +82,7 @@ export class Browser {
 
   // Waits until an expression in the page is true.
   async until(expression) {
-    const end = Date.now() + 10000;
+    const end = Date.now() + 60000;
     while (!(await this.value(`Boolean(${expression})`))) {
       if (Date.now() > end) throw new Error(`this never came: ${expression}`);
       await new Promise((ready) => setTimeout(ready, 20));

@@ -81,7 +81,7 @@ export class Firefox {
 
   // Waits until an expression in the page is true.
   async until(expression) {
-    const end = Date.now() + 30000;
+    const end = Date.now() + 60000;
     while (!(await this.value(`Boolean(${expression})`))) {
       if (Date.now() > end) throw new Error(`this never came: ${expression}`);
       await new Promise((ready) => setTimeout(ready, 20));

@@ -22,6 +22,8 @@ function indexOf(key) {
  */
 export class Traps {
   #its;
+  /** The object, which is made after its traps. */
+  made = null;
 
   constructor(its, realm = null) {
     this.#its = its;
@@ -97,23 +99,40 @@ export class Traps {
   preventExtensions() {
     return false;
   }
+
+  /** Also makes the state known (see `asked`). */
+  isExtensible(target) {
+    if (this.made !== null) known.set(this.made, this.#its);
+    return Reflect.isExtensible(target);
+  }
 }
 
 guardTraps(Traps);
 
+/** The states of objects whose methods were called. An entry takes longer than the object, and most objects are only read through their traps. */
 const known = new WeakMap();
+
+/** Has the trap of such an object enter its state. */
+function asked(it) {
+  try {
+    Reflect.isExtensible(it);
+  } catch {
+    // (a proxy of a program's own)
+  }
+  return known.get(it);
+}
 
 /** Returns the state of such an object if it is of a class. */
 export function knownOf(it, Kind) {
-  const its = typeof it === "object" && it !== null ? known.get(it) : undefined;
+  const its = typeof it === "object" && it !== null ? (known.get(it) ?? asked(it)) : undefined;
   return its instanceof Kind ? its : undefined;
 }
 
 /** Makes an object of an interface of a realm, with a state. */
 export function makeLegacy(realm, name, its) {
-  const made = new Proxy(Object.create(realm.interfaces[name].prototype), new Traps(its, realm));
-  known.set(made, its);
-  return made;
+  const traps = new Traps(its, realm);
+  traps.made = new Proxy(Object.create(realm.interfaces[name].prototype), traps);
+  return traps.made;
 }
 
 /** Gives a prototype what arrays have for going through. */

@@ -6,27 +6,54 @@ const [, hasAttribute] = Element.operations.hasAttribute;
 /** The element whose attribute is being written by its declaration, or read into it, or null: neither then follows the other. */
 let followed = null;
 
-function exclusively(element, does, given) {
+/** Has a declaration say what the attribute says. */
+function read(element, declaration) {
   if (followed === element) return;
   const before = followed;
   followed = element;
   try {
-    does(element, given);
+    declaration.cssText = element.getAttribute("style") ?? "";
   } finally {
     followed = before;
   }
 }
 
-const readNow = (element, declaration) => void (declaration.cssText = element.getAttribute("style") ?? "");
-const writeNow = (element, text) => setPlain(element, "style", text);
+function write(element, text) {
+  if (followed === element) return;
+  const before = followed;
+  followed = element;
+  try {
+    setPlain(element, "style", text);
+  } finally {
+    followed = before;
+  }
+}
 
-/** Has a declaration say what the attribute says. */
-const read = (element, declaration) => exclusively(element, readNow, declaration);
+/** A class of declarations. Their text, which each change asks for, is put together without lists. */
+function declarationsBy({ CSSStyleDeclaration }) {
+  return class extends CSSStyleDeclaration {
+    get cssText() {
+      let text = "";
+      for (let at = 0; at < this.length; at++) {
+        const name = this[at];
+        const priority = this.getPropertyPriority(name);
+        text += `${at > 0 ? " " : ""}${name}: ${this.getPropertyValue(name)}${priority && ` !${priority}`};`;
+      }
+      return text;
+    }
+
+    set cssText(text) {
+      super.cssText = text;
+    }
+  };
+}
+
+let Declaration = null;
 
 /** A declaration that writes what a program changes into the attribute. */
 function made(element) {
-  const { CSSStyleDeclaration } = wanted("cssstyle", "styles");
-  const declaration = new CSSStyleDeclaration((text) => exclusively(element, writeNow, text));
+  Declaration ??= declarationsBy(wanted("cssstyle", "styles"));
+  const declaration = new Declaration((text) => write(element, text));
   if (hasAttribute(element, "style")) read(element, declaration);
   return declaration;
 }

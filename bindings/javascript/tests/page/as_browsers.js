@@ -1,4 +1,4 @@
-// What browsers answer, written down: each case gets a window with an empty page, and answers what JSON has. It is run over the page and in Chromium.
+// Answers of browsers, written down: each case gets a window with an empty page, and returns what JSON has. It is run over the page, in Chromium and Firefox.
 import { SELECTOR_ANSWERS } from "./selector_answers.js";
 
 const caught = (does) => {
@@ -140,6 +140,19 @@ const nodes = {
       ],
       true,
     ],
+  ],
+  "a map of attributes takes no other object in its place": [
+    ({ document, NamedNodeMap, DOMTokenList }, attempt) => {
+      const element = document.createElement("p");
+      element.className = "a b";
+      const { item } = NamedNodeMap.prototype;
+      const named = (map) => attempt(() => item.call(map, 0).name);
+      const { proxy, revoke } = Proxy.revocable({}, {});
+      revoke();
+      const others = [new Proxy(element.attributes, {}), Object.create(element.attributes), element.classList, {}, proxy].map(named);
+      return [named(element.attributes), ...others, attempt(() => DOMTokenList.prototype.item.call(element.classList, 1)), element.attributes.item(0).name];
+    },
+    ["class", "TypeError", "TypeError", "TypeError", "TypeError", "TypeError", "b", "class"],
   ],
   "names of controls are names of their form": [
     ({ document }) => {

@@ -1,13 +1,13 @@
-// A page answers what browsers answer, by written answers; Chromium, where it is there, gives them too.
+// A page gives the answers that are written down, and so do Chromium and Firefox if they are there.
 import assert from "node:assert/strict";
 import { runInContext, createContext } from "node:vm";
 import test from "node:test";
 
-import { missing } from "../../examples/playground/browser.js";
 import { createPage } from "../../lib/page/index.js";
 import { sessionOf } from "../../lib/wrappers.js";
 import { ANSWERS, caught } from "./as_browsers.js";
-import { inChromium, NEEDED, skipWithout, WINDOWS } from "./players.js";
+import { DIFFERENCES } from "./differences.js";
+import { BROWSERS, inBrowser, NEEDED, skipWithout, WINDOWS } from "./players.js";
 
 const skip = skipWithout(...NEEDED);
 
@@ -17,16 +17,22 @@ for (const [name, [does, due]] of Object.entries(ANSWERS)) {
   });
 }
 
-/** A case as Chromium runs it: a method, with what it calls in its own text. */
+/** A case as a browser runs it: a method, with what it calls in its own text. */
 const asMethod = (does, at) => {
   const text = `case${at}(window) { const attempt = ${caught}; return (${does})(window, attempt); }`;
   return { name: `case${at}`, toString: () => text };
 };
 
-test("Chromium gives the same answers", { skip: missing() ?? false }, async () => {
-  const said = await inChromium(Object.values(ANSWERS).map(([does], at) => asMethod(does, at)));
-  Object.entries(ANSWERS).forEach(([name, [, due]], at) => assert.deepEqual(JSON.parse(said[at]), due, name));
-});
+for (const [browser, { missing }] of Object.entries(BROWSERS)) {
+  test(`${browser} gives the same answers`, { skip: missing() ?? false }, async (t) => {
+    const said = await inBrowser(browser, Object.values(ANSWERS).map(([does], at) => asMethod(does, at)));
+    for (const [at, [name, [, due]]] of Object.entries(ANSWERS).entries()) {
+      const reason = DIFFERENCES[browser][name];
+      const compare = reason ? assert.notDeepEqual : assert.deepEqual;
+      await t.test(reason ? `${name}, where it differs: ${reason}` : name, () => compare(JSON.parse(said[at]), due));
+    }
+  });
+}
 
 test("a page is put on what vm.createContext answers", { skip }, () => {
   const context = createContext({});

@@ -5,7 +5,7 @@ import test from "node:test";
 import { CASES } from "./cases.js";
 import { DIFFERENCES } from "./differences.js";
 import { missing } from "../../examples/playground/browser.js";
-import { inChromium, NEEDED, skipWithout, WINDOWS } from "./players.js";
+import { inBrowser, NEEDED, skipWithout, WINDOWS } from "./players.js";
 
 const all = Object.values(CASES).flatMap((group) => Object.entries(group));
 
@@ -36,8 +36,8 @@ test("a page answers as jsdom does", { skip: skip || skipWithout("jsdom") }, asy
 });
 
 test("a page answers as Chromium does", { skip: skip || (missing() ?? false) }, async (t) => {
-  const due = await inChromium(all.map(([, does]) => does));
+  const due = await inBrowser("Chromium", all.map(([, does]) => does));
   for (const [at, [name, does]] of all.entries()) {
-    await compared(t, name, DIFFERENCES.chromium[name], does, () => due[at]);
+    await compared(t, name, DIFFERENCES.Chromium[name], does, () => due[at]);
   }
 });

@@ -1,4 +1,4 @@
-// Cases in which jsdom (20.0.3) or Chromium (156) answers otherwise than the page, and why. The other of the two is then what counts.
+// Cases in which jsdom (20.0.3), Chromium (156) or Firefox (153) differ from the page, with the reason. Another one of them then agrees with the page.
 export const DIFFERENCES = {
   jsdom: {
     "innerHTML of null is nothing, and text is escaped": "it writes < and > in attributes as they are, as was so until 2025",
@@ -19,7 +19,10 @@ export const DIFFERENCES = {
     "attributes as a test asks for them": "it has no ARIA properties, no spellcheck and no loading",
     "computed styles of an element that is shown, and of one that is not": "its computed styles have no display for inline elements",
   },
-  chromium: {
+  Chromium: {
     "window.event is the one on its way": "the listeners are of another window there",
+  },
+  Firefox: {
+    "inputs have Dates": "it has no controls of months and weeks",
   },
 };

@@ -1,7 +1,20 @@
-// The windows that cases and libraries run over: the page's, jsdom's, and Chromium's where it is there.
+// The windows that cases and libraries run over: the page's, jsdom's, and those of browsers that are there.
 import { createRequire } from "node:module";
 
-import { Browser } from "../../examples/playground/browser.js";
+import { Browser, missing as missingChromium } from "../../examples/playground/browser.js";
+import { Firefox, missing as missingFirefox } from "../../examples/playground/firefox.js";
+
+/** Each browser: why it is left out, if it is, and how it is opened, with focus. */
+export const BROWSERS = {
+  Chromium: { missing: missingChromium, open: openChromium },
+  Firefox: { missing: missingFirefox, open: () => Firefox.open() },
+};
+
+async function openChromium() {
+  const browser = await Browser.open();
+  await browser.call("Emulation.setFocusEmulationEnabled", { enabled: true });
+  return browser;
+}
 
 export const EMPTY = "<!DOCTYPE html><html><head></head><body></body></html>";
 export const ADDRESS = "http://page.test/";
@@ -46,10 +59,9 @@ function forEditors(window) {
   return window;
 }
 
-/** Runs cases in Chromium, each in a frame of its own; answers what each answers, as JSON has it. */
-export async function inChromium(cases) {
-  const browser = await Browser.open();
-  await browser.call("Emulation.setFocusEmulationEnabled", { enabled: true });
+/** Runs cases in a browser, each in a frame of its own; returns what each returns, as JSON has it. */
+export async function inBrowser(name, cases) {
+  const browser = await BROWSERS[name].open();
   try {
     const answers = [];
     for (const does of cases) answers.push(await browser.value(`(${inFrame})(${asFunction(does)}, ${JSON.stringify(EMPTY)})`));

@@ -1,4 +1,4 @@
-// What browsers answer to selectors, written down: as the cases of as_browsers.js, over a page and in Chromium.
+// What browsers answer to selectors, written down: as the cases of as_browsers.js, over a page, in Chromium and in Firefox.
 
 const selectors = {
   "a text that is no selector is refused": [

@@ -1,7 +1,7 @@
 use Rattle.std.proofs.Common.{◌≡◌, tests, rules, ap, Some, Err}
 use Rattle.dom_model.specs.Definitions.{children_of, World}
 use Rattle.dom_session.specs.Neighbours.{child_count_in, laid_over}
-use Rattle.dom_wire.specs.Sessions.{StandsFor, held_world}
+use Rattle.dom_session.specs.Sessions.{StandsFor, held_world}
 use Rattle.dom_c.specs.Neighbours.{children_over, out_as}
 use Rattle.dom_c.proofs.IsReadOrEndedLemmas.{reads-refused, refused-copies}
 use Rattle.dom_c.proofs.neighbours.hp_children_into.Goals as goal

@@ -1,11 +1,12 @@
 -- The record of a changed attribute.
 use Rattle.std.proofs.Common.{◌∷◌, [], Some, refl, subst}
 use Rattle.std.proofs.lemmas.Result.{on_ok_weaker}
-use Rattle.dom_model.specs.Definitions.{attribute_value, Forest, entry_in, ancestors, Content, Mutation, Observing, standing_on, noted, content_in}
+use Rattle.dom_model.specs.Definitions.{attribute_value, Forest, entry_in, ancestors, Content, Mutation, Observing, standing_on, noted, content_in, attributes_of}
 use Rattle.dom_model.specs.declared.RecordType.TheVariants.{Attributes}
 use Rattle.dom_edit.specs.declared.world.World.{World}
-use Rattle.dom_edit.proofs.{KeepsNodesLemmas.one-there, AreThereLemmas.whole-named}
+use Rattle.dom_edit.proofs.{KeepsNodesLemmas.one-there, AreThereLemmas.whole-named, UnobservedLemmas.follows-unheard_mutation}
 use Rattle.dom_observe.specs.{ObservedNodes.nodes_of_mutation, ObservedNodes.NamesOnly, Watchers.Watches}
+use Rattle.dom_data.specs.Changes.{change_of}
 use Rattle.dom_data.proofs.QueuesMutationLemmas.{follows-told}
 use Rattle.dom_data.proofs.records.queue_attribute_record.Goals as goal
 
@@ -30,3 +31,9 @@ returns-clause-whole c =
 
 pub returns-clause-observers : goal.returns-clause-observers
 returns-clause-observers c = c.queue_record.ensures.made
+
+pub returns-then-is_idle-clause-told : goal.returns-then-is_idle-clause-told
+returns-then-is_idle-clause-told c =
+    let n = c.args.node in
+    let name = c.args.name.now in
+    follows-unheard_mutation c.args.world.now (λ w. change_of Attributes n (Some name) (attribute_value name (attributes_of w n))) (λ x o. c.is_idle.ensures.idle x o c.if-is_idle.true)

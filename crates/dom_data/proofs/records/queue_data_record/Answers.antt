@@ -2,10 +2,10 @@
 use Rattle.std.proofs.Common.{◌∷◌, [], None, Some, refl, subst}
 use Rattle.std.proofs.lemmas.Result.{on_ok_weaker}
 use Rattle.dom_model.specs.declared.RecordType.TheVariants.{CharacterData}
-use Rattle.dom_model.specs.Definitions.{Forest, entry_in, Content, content_in}
+use Rattle.dom_model.specs.Definitions.{Forest, entry_in, Content, content_in, data_of}
 use Rattle.dom_edit.specs.declared.world.World.{World}
-use Rattle.dom_edit.proofs.{KeepsNodesLemmas.one-there, AreThereLemmas.whole-named}
-use Rattle.dom_data.specs.Changes.{QueuesMutation}
+use Rattle.dom_edit.proofs.{KeepsNodesLemmas.one-there, AreThereLemmas.whole-named, UnobservedLemmas.follows-unheard_mutation}
+use Rattle.dom_data.specs.Changes.{QueuesMutation, change_of}
 use Rattle.dom_data.proofs.QueuesMutationLemmas.{follows-told}
 use Rattle.dom_data.proofs.records.queue_data_record.Goals as goal
 
@@ -27,3 +27,8 @@ returns-clause-whole c =
 
 pub returns-clause-observers : goal.returns-clause-observers
 returns-clause-observers c = c.queue_record.ensures.made
+
+pub returns-then-is_idle-clause-told : goal.returns-then-is_idle-clause-told
+returns-then-is_idle-clause-told c =
+    let n = c.args.node in
+    follows-unheard_mutation c.args.world.now (λ w. change_of CharacterData n None (Some (data_of w n))) (λ x o. c.is_idle.ensures.idle x o c.if-is_idle.true)

@@ -1,4 +1,4 @@
-use Rattle.dom_wire.specs.Sessions.{bounds_of}
+use Rattle.dom_session.specs.Sessions.{bounds_of}
 use Rattle.dom_serve.proofs.ServesPiecesLemmas.{told-output}
 use Rattle.dom_serve.proofs.serve_loop.serve.Goals as goal
 

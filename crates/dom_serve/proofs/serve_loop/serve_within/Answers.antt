@@ -1,5 +1,5 @@
 use Rattle.std.proofs.Common.{inr}
-use Rattle.dom_wire.specs.Sessions.{bounds_of}
+use Rattle.dom_session.specs.Sessions.{bounds_of}
 use Rattle.dom_serve.proofs.ServesPiecesLemmas.{told-none}
 use Rattle.dom_serve.proofs.serve_loop.serve_within.Goals as goal
 

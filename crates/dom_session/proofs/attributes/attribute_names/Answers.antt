@@ -1,7 +1,7 @@
 use Rattle.std.proofs.Common.{sym, map, string_bytes, ap, ◌∙◌, refl, []}
 use Rattle.dom_model.specs.Definitions.{attribute_names, Content, AttributeNames, is_kind, answers, content_in, entry_in}
 use Rattle.dom_model.specs.declared.Kind.TheVariants.{Element}
-use Rattle.dom_session.specs.{declared.reply.Answer.TheVariants.Names, declared.reply.Reply.TheVariants.Done}
+use Rattle.dom_commands.specs.{declared.reply.Answer.TheVariants.Names, declared.reply.Reply.TheVariants.Done}
 use Rattle.dom_session.proofs.{GuardedLemmas.step-stays, NodeData.answer-attribute_names, OtherKinds.step-other_kind}
 use Rattle.dom_model.specs.Commands.Reply as model_reply
 use Rattle.dom_session.proofs.attributes.attribute_names.Goals as goal

@@ -1,7 +1,7 @@
 use Rattle.std.proofs.Common.{sym, refl, []}
 use Rattle.dom_model.specs.Definitions.{GetAttribute, is_kind, answers, content_in, entry_in, attribute_value}
 use Rattle.dom_model.specs.declared.Kind.TheVariants.{Element}
-use Rattle.dom_session.specs.{declared.reply.Answer.TheVariants.MaybeUnits, declared.reply.Reply.TheVariants.Done}
+use Rattle.dom_commands.specs.{declared.reply.Answer.TheVariants.MaybeUnits, declared.reply.Reply.TheVariants.Done}
 use Rattle.dom_session.proofs.{GuardedLemmas.step-stays, NodeData.answer-get_attribute, OtherKinds.step-other_kind}
 use Rattle.dom_model.specs.Commands.Reply as model_reply
 use Rattle.dom_session.proofs.attributes.get_attribute.Goals as goal

@@ -2,7 +2,7 @@ use Rattle.std.proofs.Common.{◌≡◌, Bool, ap, sym, ◌∙◌, refl, [], ◌
 use Rattle.dom_model.specs.Definitions.{HasAttribute, Step, is_kind, no_node, wrong_kind, answers, has_attribute}
 use Rattle.dom_model.specs.declared.Kind.TheVariants.{Element}
 use Rattle.dom_edit.specs.Whole.{unwatched}
-use Rattle.dom_session.specs.{declared.reply.Answer.TheVariants.Flag, declared.reply.Reply.TheVariants.Done, Views.reply_view}
+use Rattle.dom_commands.specs.{declared.reply.Answer.TheVariants.Flag, declared.reply.Reply.TheVariants.Done, Views.reply_view}
 use Rattle.dom_session.proofs.{GuardedLemmas.step-stays, GuardedLemmas.guarded-none, GuardedLemmas.guarded-some, NodeData.answer-has_attribute, OtherKinds.step-other_kind}
 use Rattle.dom_model.specs.Commands.Reply as model_reply
 use Rattle.dom_session.proofs.attributes.has_attribute.Goals as goal

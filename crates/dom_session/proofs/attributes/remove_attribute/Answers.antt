@@ -1,7 +1,7 @@
 use Rattle.std.proofs.Common.{refl, sym, []}
 use Rattle.dom_model.specs.Definitions.{remove_attribute, RemoveAttribute, is_kind, does}
 use Rattle.dom_model.specs.declared.Kind.TheVariants.{Element}
-use Rattle.dom_session.specs.{declared.brief.Brief.TheVariants.Nothing, declared.reply.Reply.TheVariants.Brief}
+use Rattle.dom_commands.specs.{declared.brief.Brief.TheVariants.Nothing, declared.reply.Reply.TheVariants.Brief}
 use Rattle.dom_session.proofs.{GuardedLemmas.step-follows, NodeData.answer-remove_attribute, OtherKinds.step-other_kind}
 use Rattle.dom_session.proofs.attributes.remove_attribute.Goals as goal
 
@@ -13,6 +13,7 @@ returns c =
           (λ w shown. answer-remove_attribute v b w shown c.args.element c.args.name.now (sym c.in_default.ensures))
           c.in_ok-remove_attribute.ensures.removed c.remove_attribute.ensures.whole;
       left = tt;
+      unobserved = λ none. tt;
     }
 
 pub returns-in-Some-clause-step : goal.returns-in-Some-clause-step

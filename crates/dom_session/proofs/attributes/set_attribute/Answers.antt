@@ -1,7 +1,7 @@
 use Rattle.std.proofs.Common.{◌≡◌, true, refl, sym, string_bytes, [], ◌∷◌}
 use Rattle.dom_model.specs.Definitions.{is_attribute_name, set_attribute, SetAttribute, is_kind, bad_name, does}
 use Rattle.dom_model.specs.declared.Kind.TheVariants.{Element}
-use Rattle.dom_session.specs.{declared.brief.Brief.TheVariants.Nothing, declared.reply.Reply.TheVariants.Brief}
+use Rattle.dom_commands.specs.{declared.brief.Brief.TheVariants.Nothing, declared.reply.Reply.TheVariants.Brief}
 use Rattle.dom_session.proofs.{GuardedLemmas.step-follows, NodeData.answer-set_attribute, OtherKinds.step-other_kind}
 use Rattle.dom_session.proofs.attributes.set_attribute.Goals as goal
 
@@ -15,6 +15,7 @@ returns c =
           (λ w shown. answer-set_attribute v b w shown c.args.element name c.args.value (sym c.in_default.ensures) valid)
           c.in_ok-set_attribute.ensures.set c.set_attribute.ensures.whole;
       left = tt;
+      unobserved = λ none. tt;
     }
 
 pub returns-in-Some-clause-step : goal.returns-in-Some-clause-step

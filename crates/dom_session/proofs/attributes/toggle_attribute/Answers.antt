@@ -1,7 +1,7 @@
 use Rattle.std.proofs.Common.{◌≡◌, true, refl, sym, string_bytes, [], ◌∷◌}
 use Rattle.dom_model.specs.Definitions.{is_attribute_name, toggle_attribute, has_attribute, is_toggled_on, ToggleAttribute, is_kind, bad_name}
 use Rattle.dom_model.specs.declared.Kind.TheVariants.{Element}
-use Rattle.dom_session.specs.{declared.reply.Answer.TheVariants.Flag, declared.reply.Reply.TheVariants.Done}
+use Rattle.dom_commands.specs.{declared.reply.Answer.TheVariants.Flag, declared.reply.Reply.TheVariants.Done}
 use Rattle.dom_session.proofs.{GuardedLemmas.step-follows, NodeData.answer-toggle_attribute, OtherKinds.step-other_kind}
 use Rattle.dom_model.specs.Commands.Reply as model_reply
 use Rattle.dom_session.proofs.attributes.toggle_attribute.Goals as goal
@@ -16,6 +16,7 @@ returns c =
           (λ w shown. answer-toggle_attribute v b w shown c.args.element name c.args.force c.in_ok-present.present (sym c.in_default.ensures) valid c.in_ok-present.ensures.answer)
           c.in_ok-present.ensures.toggled c.toggle_attribute.ensures.whole;
       left = tt;
+      unobserved = λ none. tt;
     }
 
 pub returns-in-Some-clause-step : goal.returns-in-Some-clause-step

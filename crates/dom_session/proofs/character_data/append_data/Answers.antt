@@ -1,6 +1,7 @@
 use Rattle.std.proofs.Common.{◌≡◌, true, is_some}
 use Rattle.dom_model.specs.Definitions.{entry_in, AppendData, ReplaceData, Bounds}
-use Rattle.dom_session.specs.{declared.reply.Reply.Reply, SessionViews.IsStep}
+use Rattle.dom_commands.specs.{declared.reply.Reply.Reply}
+use Rattle.dom_session.specs.{SessionViews.IsStep}
 use Rattle.dom_session.proofs.NodeData.{ok-more, step-same, answer-append_data}
 use Rattle.dom_session.proofs.character_data.append_data.Goals as goal
 
@@ -19,4 +20,5 @@ returns c =
           (λ reply h b. step-same old new b replace command reply (λ w shown. answer-append_data old b w shown n c.length-end.result c.args.text.now held c.length-end.ensures) (h b))
           c.replace_data.ensures.step;
       left = c.replace_data.ensures.left;
+      unobserved = c.replace_data.ensures.unobserved;
     }

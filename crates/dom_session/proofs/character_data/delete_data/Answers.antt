@@ -1,6 +1,7 @@
 use Rattle.std.proofs.Common.{[], refl}
 use Rattle.dom_model.specs.Definitions.{DeleteData, ReplaceData, Bounds}
-use Rattle.dom_session.specs.{declared.reply.Reply.Reply, SessionViews.IsStep}
+use Rattle.dom_commands.specs.{declared.reply.Reply.Reply}
+use Rattle.dom_session.specs.{SessionViews.IsStep}
 use Rattle.dom_session.proofs.NodeData.{ok-more, step-same}
 use Rattle.dom_session.proofs.character_data.delete_data.Goals as goal
 
@@ -18,4 +19,5 @@ returns c =
           (λ reply h b. step-same old new b replace command reply (λ w shown. refl) (h b))
           c.replace_data.ensures.step;
       left = c.replace_data.ensures.left;
+      unobserved = c.replace_data.ensures.unobserved;
     }

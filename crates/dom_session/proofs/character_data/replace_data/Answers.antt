@@ -1,7 +1,7 @@
 use Rattle.std.proofs.Common.{refl, sym, Some, None, []}
 use Rattle.dom_model.specs.Definitions.{check_offset, replace_data, ReplaceData, is_character_data, does, checked}
 use Rattle.dom_edit.specs.Whole.{unwatched}
-use Rattle.dom_session.specs.{declared.brief.Brief.TheVariants.Nothing, declared.reply.Reply.TheVariants.Brief}
+use Rattle.dom_commands.specs.{declared.brief.Brief.TheVariants.Nothing, declared.reply.Reply.TheVariants.Brief}
 use Rattle.dom_session.proofs.{GuardedLemmas.step-follows, GuardedLemmas.steps-refused, NodeData.answer-replace_data, KeepsWholeWorldLemmas.kept_numbers, OtherKinds.step-other_kind}
 use Rattle.dom_session.proofs.character_data.replace_data.Goals as goal
 use Rattle.dom_data.proofs.ResultLemmas.{on_err}
@@ -14,6 +14,7 @@ returns-in-Ok c =
           (λ w shown. answer-replace_data v b w shown c.args.node c.args.offset c.args.count c.args.text.now None (sym c.in_default.ensures) c.in-Ok.ensures.allowed)
           c.in-Ok.ensures.replaced c.replace_data.ensures.whole;
       left = tt;
+      unobserved = λ none. tt;
     }
 
 pub returns-in-Err : goal.returns-in-Err
@@ -24,6 +25,7 @@ returns-in-Err c =
       step = steps-refused v c.replace_data.new.world (ReplaceData n c.args.offset c.args.count c.args.text.now) c.in-Err.refusal (check_offset (unwatched v) n c.args.offset) c.reply_to.result c.reply_to.ensures c.in-Err.ensures.refused
           (λ b e named w shown. answer-replace_data v b w shown n c.args.offset c.args.count c.args.text.now (Some e) (sym c.in_default.ensures) named);
       left = on_err c.reply_to.result (kept_numbers v c.replace_data.new.world c.replace_data.ensures.kept c.replace_data.ensures.whole);
+      unobserved = λ none. on_err c.reply_to.result (c.in-Err.ensures.unchanged none);
     }
 
 pub returns-in-Some-clause-step : goal.returns-in-Some-clause-step

@@ -1,7 +1,8 @@
 use Rattle.std.proofs.Common.{◌≡◌, ◌+◌, nat_lt, true, false, refl, arith, is_some}
 use Rattle.std.proofs.lemmas.Bool.Decides.{nat_tests}
 use Rattle.dom_model.specs.Definitions.{entry_in, set_text_content, SetTextContent}
-use Rattle.dom_session.specs.{declared.brief.Brief.TheVariants.Nothing, declared.reply.Reply.TheVariants.Brief, AnswerBounds.numbered}
+use Rattle.dom_commands.specs.{declared.brief.Brief.TheVariants.Nothing, declared.reply.Reply.TheVariants.Brief}
+use Rattle.dom_session.specs.{AnswerBounds.numbered}
 use Rattle.dom_session.proofs.{GuardedLemmas.step-follows, NodeData.answer-set_text_content}
 use Rattle.dom_session.proofs.character_data.set_text_content.Goals as goal
 

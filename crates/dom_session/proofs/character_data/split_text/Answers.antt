@@ -2,7 +2,8 @@ use Rattle.std.proofs.Common.{◌≡◌, ◌+◌, nat_lt, false, Some, None, ref
 use Rattle.std.proofs.lemmas.Bool.Decides.{nat_tests}
 use Rattle.dom_model.specs.Definitions.{check_offset, split, SplitText}
 use Rattle.dom_edit.specs.Whole.{unwatched}
-use Rattle.dom_session.specs.{declared.brief.Brief.TheVariants.Number, declared.reply.Reply.TheVariants.Brief, Views.reply_view, AnswerBounds.numbered}
+use Rattle.dom_commands.specs.{declared.brief.Brief.TheVariants.Number, declared.reply.Reply.TheVariants.Brief, Views.reply_view}
+use Rattle.dom_session.specs.{AnswerBounds.numbered}
 use Rattle.dom_session.proofs.{GuardedLemmas.step-follows, GuardedLemmas.step-stays, GuardedLemmas.step-refused, NodeData.answer-split_text, NodeData.refused-split_text, KeepsWholeWorldLemmas.kept_labels}
 use Rattle.dom_session.proofs.character_data.split_text.Goals as goal
 use Rattle.dom_data.proofs.ResultLemmas.{on_err}

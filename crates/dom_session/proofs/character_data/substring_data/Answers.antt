@@ -4,7 +4,7 @@ use Rattle.dom_model.specs.Definitions.{check_offset, substring_data, SubstringD
 use Rattle.dom_edit.specs.{Whole.unwatched, declared.world.World.World, declared.refusal.Refusal.Refusal, Refusals.IsRefused}
 use Rattle.dom_edit.specs.declared.refusal.Refusal.TheVariants as refusal
 use Rattle.dom_data.specs.SubstringRefusal.{IsNamed}
-use Rattle.dom_session.specs.{declared.reply.Answer.TheVariants.Units, declared.reply.Reply.TheVariants.Done, Views.reply_view}
+use Rattle.dom_commands.specs.{declared.reply.Answer.TheVariants.Units, declared.reply.Reply.TheVariants.Done, Views.reply_view}
 use Rattle.dom_session.proofs.{GuardedLemmas.step-stays, GuardedLemmas.steps-refused, NodeData.answer-substring_data, NodeData.refused-substring_data}
 use Rattle.dom_session.proofs.character_data.substring_data.Goals as goal
 

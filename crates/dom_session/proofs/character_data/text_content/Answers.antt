@@ -1,6 +1,6 @@
 use Rattle.std.proofs.Common.{◌≡◌, true, is_some}
 use Rattle.dom_model.specs.Definitions.{entry_in, TextContent}
-use Rattle.dom_session.specs.{declared.reply.Answer.TheVariants.MaybeUnits, declared.reply.Reply.TheVariants.Done}
+use Rattle.dom_commands.specs.{declared.reply.Answer.TheVariants.MaybeUnits, declared.reply.Reply.TheVariants.Done}
 use Rattle.dom_session.proofs.{GuardedLemmas.step-stays, NodeData.answer-text_content}
 use Rattle.dom_session.proofs.character_data.text_content.Goals as goal
 

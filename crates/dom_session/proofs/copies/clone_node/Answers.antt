@@ -1,6 +1,7 @@
 use Rattle.std.proofs.Common.{◌≡◌, ◌+◌, ◌*◌, nat_lt, true, false, refl, ◌∙◌, is_some}
 use Rattle.dom_model.specs.Definitions.{entry_in, size, clone_node, CloneNode}
-use Rattle.dom_session.specs.{declared.brief.Brief.TheVariants.Number, declared.reply.Reply.TheVariants.Brief, AnswerBounds.numbered}
+use Rattle.dom_commands.specs.{declared.brief.Brief.TheVariants.Number, declared.reply.Reply.TheVariants.Brief}
+use Rattle.dom_session.specs.{AnswerBounds.numbered}
 use Rattle.dom_session.proofs.{GuardedLemmas.step-follows, NodeCopies.room-copy, NodeCopies.answer-clone_node, KeepsWholeWorldLemmas.kept_all}
 use Rattle.dom_session.proofs.copies.clone_node.Goals as goal
 use Rattle.dom_data.proofs.ResultLemmas.{on_err}

@@ -2,7 +2,8 @@ use Rattle.std.proofs.Common.{◌≡◌, ◌+◌, ◌*◌, nat_lt, true, false, 
 use Rattle.dom_model.specs.declared.Kind.TheVariants.{Document}
 use Rattle.dom_model.specs.Definitions.{is_kind, entry_in, size, kind_passes, import_node, ImportNode}
 use Rattle.dom_edit.specs.Refusals.{check_adopt}
-use Rattle.dom_session.specs.{declared.brief.Brief.TheVariants.Number, declared.reply.Reply.TheVariants.Brief, AnswerBounds.numbered}
+use Rattle.dom_commands.specs.{declared.brief.Brief.TheVariants.Number, declared.reply.Reply.TheVariants.Brief}
+use Rattle.dom_session.specs.{AnswerBounds.numbered}
 use Rattle.dom_session.proofs.{GuardedLemmas.step-follows, GuardedLemmas.step-refused, NodeCopies.room-copy, NodeCopies.answer-import_node, NodeCopies.refused-import_node, KeepsWholeWorldLemmas.kept_all}
 use Rattle.dom_session.proofs.copies.import_node.Goals as goal
 use Rattle.dom_data.proofs.ResultLemmas.{on_err}

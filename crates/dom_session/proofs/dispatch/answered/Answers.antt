@@ -1,5 +1,5 @@
 use Rattle.std.proofs.Common.{Result, Ok, Err, OnErr}
-use Rattle.dom_session.specs.{Views.editing_view, Views.texts_view, Views.attributes_view, Views.copying_view, Views.contents_view}
+use Rattle.dom_commands.specs.{Views.editing_view, Views.texts_view, Views.attributes_view, Views.copying_view, Views.contents_view}
 use Rattle.dom_session.proofs.GoingOn.{as_it_was-on_err, unasked-making, ending-editing, going-asked}
 use Rattle.dom_session.proofs.dispatch.answered.Goals as goal
 

@@ -1,7 +1,8 @@
 use Rattle.std.proofs.Common.{◌≡◌, ◌+◌, nat_lt, false, length, [], ◌∷◌, ◌++◌, Some, refl, arith, ◌∙◌}
 use Rattle.std.proofs.lemmas.{Grind.common_steps, Bool.Decides.nat_tests}
 use Rattle.dom_model.specs.Definitions.{Range, CloneRange}
-use Rattle.dom_session.specs.{declared.brief.Brief.TheVariants.Number, declared.reply.Reply.TheVariants.Brief, AnswerBounds.numbered}
+use Rattle.dom_commands.specs.{declared.brief.Brief.TheVariants.Number, declared.reply.Reply.TheVariants.Brief}
+use Rattle.dom_session.specs.{AnswerBounds.numbered}
 use Rattle.dom_session.proofs.{RangeTableLemmas.step-ranges, RangeAnswers.answer-clone_range}
 use Rattle.dom_session.proofs.live_ranges.clone_range.Goals as goal
 

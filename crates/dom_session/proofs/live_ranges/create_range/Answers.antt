@@ -2,7 +2,8 @@ use Rattle.std.proofs.Common.{◌≡◌, ◌+◌, nat_lt, true, false, length, [
 use Rattle.std.proofs.lemmas.{Grind.common_steps, Bool.Decides.nat_tests}
 use Rattle.dom_model.specs.declared.Kind.TheVariants.{Document}
 use Rattle.dom_model.specs.Definitions.{entry_in, CreateRange, is_of_kind, collapsed_at}
-use Rattle.dom_session.specs.{declared.brief.Brief.TheVariants.Number, declared.reply.Reply.TheVariants.Brief, AnswerBounds.numbered}
+use Rattle.dom_commands.specs.{declared.brief.Brief.TheVariants.Number, declared.reply.Reply.TheVariants.Brief}
+use Rattle.dom_session.specs.{AnswerBounds.numbered}
 use Rattle.dom_session.proofs.{RangeTableLemmas.step-ranges, RangeFacts.node-covered, RangeFacts.range-in, RangeFacts.range-of_document, RangeAnswers.answer-create_range}
 use Rattle.dom_session.proofs.live_ranges.create_range.Goals as goal
 

@@ -1,6 +1,7 @@
 use Rattle.std.proofs.Common.{◌≡◌, true, sym, ◌∙◌, string_bytes}
 use Rattle.dom_model.specs.Definitions.{is_doctype_name, no_content, doctype_label, CreateDoctype}
-use Rattle.dom_session.specs.{AnswerBounds.numbered, Brief.reply_of, Views.reply_view}
+use Rattle.dom_commands.specs.{Brief.reply_of, Views.reply_view}
+use Rattle.dom_session.specs.{AnswerBounds.numbered}
 use Rattle.dom_session.proofs.{GuardedLemmas.step-stays, NodeCreationLemmas.step-makes, NodeCreationLemmas.answer-create_doctype, NodeCreationLemmas.refused-create_doctype}
 use Rattle.dom_session.proofs.node_creation.create_doctype.Goals as goal
 

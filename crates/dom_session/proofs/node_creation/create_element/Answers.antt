@@ -1,7 +1,8 @@
 use Rattle.std.proofs.Common.{sym, true, ◌≡◌, ◌∙◌}
 use Rattle.dom_model.specs.declared.Kind.TheVariants.{Element}
 use Rattle.dom_model.specs.Definitions.{is_element_name, no_content, named, CreateElement}
-use Rattle.dom_session.specs.{AnswerBounds.numbered, Brief.reply_of, Views.reply_view}
+use Rattle.dom_commands.specs.{Brief.reply_of, Views.reply_view}
+use Rattle.dom_session.specs.{AnswerBounds.numbered}
 use Rattle.dom_session.proofs.{GuardedLemmas.step-stays, NodeCreationLemmas.step-makes, NodeCreationLemmas.answer-create_element, NodeCreationLemmas.refused-create_element}
 use Rattle.dom_session.proofs.node_creation.create_element.Goals as goal
 

@@ -1,7 +1,8 @@
 use Rattle.std.proofs.Common.{[], sym, ◌∙◌}
 use Rattle.dom_model.specs.declared.Kind.TheVariants.{DocumentFragment}
 use Rattle.dom_model.specs.Definitions.{no_content, named, CreateFragment}
-use Rattle.dom_session.specs.{AnswerBounds.numbered, Brief.reply_of, Views.reply_view}
+use Rattle.dom_commands.specs.{Brief.reply_of, Views.reply_view}
+use Rattle.dom_session.specs.{AnswerBounds.numbered}
 use Rattle.dom_session.proofs.{GuardedLemmas.step-stays, NodeCreationLemmas.step-makes, NodeCreationLemmas.answer-create_fragment, NodeCreationLemmas.refused-create_fragment}
 use Rattle.dom_session.proofs.node_creation.create_fragment.Goals as goal
 

@@ -1,7 +1,8 @@
 use Rattle.std.proofs.Common.{◌≡◌, true, false, sym, ◌∙◌, string_bytes}
 use Rattle.dom_model.specs.declared.Kind.TheVariants.{ProcessingInstruction}
 use Rattle.dom_model.specs.Definitions.{is_element_name, named, with_text, closes_instruction, CreatePI}
-use Rattle.dom_session.specs.{AnswerBounds.numbered, Brief.reply_of, Views.reply_view}
+use Rattle.dom_commands.specs.{Brief.reply_of, Views.reply_view}
+use Rattle.dom_session.specs.{AnswerBounds.numbered}
 use Rattle.dom_session.proofs.{GuardedLemmas.step-stays, NodeCreationLemmas.step-makes, NodeCreationLemmas.answer-create_instruction, NodeCreationLemmas.refused-create_instruction}
 use Rattle.dom_session.proofs.node_creation.create_instruction.Goals as goal
 

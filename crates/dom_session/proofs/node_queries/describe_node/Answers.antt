@@ -1,6 +1,6 @@
 use Rattle.std.proofs.Common.{◌≡◌, true, sym, subst, is_some, IfSome}
 use Rattle.dom_model.specs.Definitions.{entry_in, DescribeNode}
-use Rattle.dom_session.specs.{declared.reply.Answer.TheVariants.NodeAt, declared.reply.Reply.TheVariants.Done}
+use Rattle.dom_commands.specs.{declared.reply.Answer.TheVariants.NodeAt, declared.reply.Reply.TheVariants.Done}
 use Rattle.dom_session.proofs.{GuardedLemmas.step-stays, DescribeNodeLemmas.answer-node}
 use Rattle.dom_session.proofs.node_queries.describe_node.Goals as goal
 

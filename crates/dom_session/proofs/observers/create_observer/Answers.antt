@@ -1,7 +1,8 @@
 use Rattle.std.proofs.Common.{◌≡◌, ◌+◌, nat_lt, length, false, ap, ◌∙◌, arith}
 use Rattle.std.proofs.lemmas.Bool.Decides.{nat_tests}
 use Rattle.dom_model.specs.Commands.Reply as model_reply
-use Rattle.dom_session.specs.{declared.brief.Brief.TheVariants.Number, declared.reply.Reply.TheVariants.Brief, AnswerBounds.numbered}
+use Rattle.dom_commands.specs.{declared.brief.Brief.TheVariants.Number, declared.reply.Reply.TheVariants.Brief}
+use Rattle.dom_session.specs.{AnswerBounds.numbered}
 use Rattle.dom_session.proofs.ObserverSteps.{step-create}
 use Rattle.dom_session.proofs.observers.create_observer.Goals as goal
 

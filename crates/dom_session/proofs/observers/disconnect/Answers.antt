@@ -1,6 +1,6 @@
 use Rattle.std.proofs.Common.{◌≡◌, true, refl, is_some}
 use Rattle.dom_observe.specs.Watchers.{queue_in}
-use Rattle.dom_session.specs.{declared.brief.Brief.TheVariants.Nothing, declared.reply.Reply.TheVariants.Brief}
+use Rattle.dom_commands.specs.{declared.brief.Brief.TheVariants.Nothing, declared.reply.Reply.TheVariants.Brief}
 use Rattle.dom_session.proofs.ObserverSteps.{step-disconnect}
 use Rattle.dom_session.proofs.observers.disconnect.Goals as goal
 

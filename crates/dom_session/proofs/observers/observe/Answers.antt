@@ -1,7 +1,7 @@
 use Rattle.std.proofs.Common.{◌≡◌, true, refl, sym, ◌∙◌, is_some}
 use Rattle.dom_model.specs.Definitions.{entry_in}
 use Rattle.dom_observe.specs.Watchers.{queue_in}
-use Rattle.dom_session.specs.{declared.brief.Brief.TheVariants.Nothing, declared.brief.Brief.TheVariants.Dom, declared.reply.Reply.TheVariants.Brief}
+use Rattle.dom_commands.specs.{declared.brief.Brief.TheVariants.Nothing, declared.brief.Brief.TheVariants.Dom, declared.reply.Reply.TheVariants.Brief}
 use Rattle.dom_session.proofs.ObserverSteps.{step-observe, step-not_observed, settled-ok, settled-err}
 use Rattle.dom_session.proofs.observers.observe.Goals as goal
 

@@ -1,5 +1,5 @@
 use Rattle.std.proofs.Common.{refl}
-use Rattle.dom_session.specs.{declared.reply.Answer.TheVariants.Numbers, declared.reply.Reply.TheVariants.Done}
+use Rattle.dom_commands.specs.{declared.reply.Answer.TheVariants.Numbers, declared.reply.Reply.TheVariants.Done}
 use Rattle.dom_session.proofs.ObserverSteps.{step-take_pending}
 use Rattle.dom_session.proofs.observers.take_pending.Goals as goal
 

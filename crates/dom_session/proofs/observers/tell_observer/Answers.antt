@@ -1,6 +1,6 @@
 use Rattle.std.proofs.Common.{◌≡◌, true, refl, is_some}
 use Rattle.dom_observe.specs.Watchers.{queue_in}
-use Rattle.dom_session.specs.{declared.reply.Answer.TheVariants.Records, declared.reply.Reply.TheVariants.Done}
+use Rattle.dom_commands.specs.{declared.reply.Answer.TheVariants.Records, declared.reply.Reply.TheVariants.Done}
 use Rattle.dom_session.proofs.ObserverSteps.{step-tell_observer}
 use Rattle.dom_session.proofs.observers.tell_observer.Goals as goal
 

@@ -2,7 +2,8 @@ use Rattle.std.proofs.Common.{◌≡◌, ◌+◌, ◌*◌, nat_lt, true, false, 
 use Rattle.dom_model.specs.Definitions.{size, check_extract, clone_contents, CloneContents}
 use Rattle.dom_ranges.specs.Tables.{range_in}
 use Rattle.dom_edit.specs.Whole.{unwatched}
-use Rattle.dom_session.specs.{declared.brief.Brief.TheVariants.Number, declared.reply.Reply.TheVariants.Brief, AnswerBounds.numbered}
+use Rattle.dom_commands.specs.{declared.brief.Brief.TheVariants.Number, declared.reply.Reply.TheVariants.Brief}
+use Rattle.dom_session.specs.{AnswerBounds.numbered}
 use Rattle.dom_session.proofs.{GuardedLemmas.step-follows, GuardedLemmas.step-refused, ContentsAnswers.room-clone_contents, ContentsAnswers.answer-clone_contents, KeepsWholeWorldLemmas.kept_labels}
 use Rattle.dom_session.proofs.range_contents.clone_contents.Goals as goal
 use Rattle.dom_data.proofs.ResultLemmas.{on_err}

@@ -1,7 +1,7 @@
 use Rattle.std.proofs.Common.{◌≡◌, true, refl, is_some}
 use Rattle.dom_model.specs.Definitions.{delete_contents, DeleteContents}
 use Rattle.dom_ranges.specs.Tables.{range_in}
-use Rattle.dom_session.specs.{declared.brief.Brief.TheVariants.Nothing, declared.reply.Reply.TheVariants.Brief}
+use Rattle.dom_commands.specs.{declared.brief.Brief.TheVariants.Nothing, declared.reply.Reply.TheVariants.Brief}
 use Rattle.dom_session.proofs.{GuardedLemmas.step-follows, ContentsAnswers.answer-delete_contents}
 use Rattle.dom_session.proofs.range_contents.delete_contents.Goals as goal
 

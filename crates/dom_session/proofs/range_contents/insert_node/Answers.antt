@@ -4,7 +4,8 @@ use Rattle.dom_model.specs.Definitions.{entry_in, insert_node, refusal_in, Inser
 use Rattle.dom_ranges.specs.Tables.{range_in}
 use Rattle.dom_edit.specs.Whole.{unwatched}
 use Rattle.dom_wrap.specs.Outcomes.{world_after_outcome}
-use Rattle.dom_session.specs.{declared.brief.Brief.TheVariants.Nothing, declared.reply.Reply.TheVariants.Brief, AnswerBounds.numbered}
+use Rattle.dom_commands.specs.{declared.brief.Brief.TheVariants.Nothing, declared.reply.Reply.TheVariants.Brief}
+use Rattle.dom_session.specs.{AnswerBounds.numbered}
 use Rattle.dom_session.proofs.{GuardedLemmas.step-follows, GuardedLemmas.step-refused, ContentsAnswers.answer-insert_node, ContentsAnswers.refused-insert_node, KeepsWholeWorldLemmas.kept_labels}
 use Rattle.dom_session.proofs.range_contents.insert_node.Goals as goal
 use Rattle.dom_data.proofs.ResultLemmas.{on_err}

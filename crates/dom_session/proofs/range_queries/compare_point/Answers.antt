@@ -2,7 +2,7 @@ use Rattle.std.proofs.Common.{◌≡◌, true, refl, ap, sym, ◌∙◌, subst, 
 use Rattle.std.proofs.lemmas.Grind.{common_steps}
 use Rattle.dom_model.specs.Definitions.{entry_in, unit_count, Point, Range, check_point, place_against, same_root, ComparePoint}
 use Rattle.dom_ranges.specs.Tables.{range_in}
-use Rattle.dom_session.specs.{declared.reply.Answer.TheVariants.Order, declared.brief.Brief.TheVariants.Dom, declared.reply.Reply.TheVariants.Brief, declared.reply.Reply.TheVariants.Done}
+use Rattle.dom_commands.specs.{declared.reply.Answer.TheVariants.Order, declared.brief.Brief.TheVariants.Dom, declared.reply.Reply.TheVariants.Brief, declared.reply.Reply.TheVariants.Done}
 use Rattle.dom_session.proofs.{GuardedLemmas.step-stays, RangeAnswers.passed, RangeAnswers.told, RangeAnswers.answer-compare_point, RangeAnswers.refusal-compare_point}
 use Rattle.dom_session.proofs.range_queries.compare_point.Goals as goal
 

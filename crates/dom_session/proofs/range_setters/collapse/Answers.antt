@@ -1,7 +1,7 @@
 use Rattle.std.proofs.Common.{◌≡◌, true, refl, is_some}
 use Rattle.dom_model.specs.Definitions.{collapsed, Collapse}
 use Rattle.dom_ranges.specs.Tables.{range_in}
-use Rattle.dom_session.specs.{declared.brief.Brief.TheVariants.Nothing, declared.reply.Reply.TheVariants.Brief}
+use Rattle.dom_commands.specs.{declared.brief.Brief.TheVariants.Nothing, declared.reply.Reply.TheVariants.Brief}
 use Rattle.dom_session.proofs.{RangeTableLemmas.step-set, RangeAnswers.answer-collapse}
 use Rattle.dom_session.proofs.range_setters.collapse.Goals as goal
 

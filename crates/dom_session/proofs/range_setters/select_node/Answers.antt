@@ -3,7 +3,7 @@ use Rattle.dom_model.specs.Definitions.{HasNode, entry_in, around, check_parent,
 use Rattle.dom_model.proofs.Forests.Above.{above}
 use Rattle.dom_edit.specs.Whole.{IsShown}
 use Rattle.dom_ranges.specs.Tables.{range_in}
-use Rattle.dom_session.specs.{declared.brief.Brief.TheVariants.Nothing, declared.reply.Reply.TheVariants.Brief}
+use Rattle.dom_commands.specs.{declared.brief.Brief.TheVariants.Nothing, declared.reply.Reply.TheVariants.Brief}
 use Rattle.dom_session.proofs.{RangeTableLemmas.step-set, RangeFacts.node-covered, RangeAnswers.passed, RangeAnswers.around-there, RangeAnswers.answer-select_node}
 use Rattle.dom_session.proofs.range_setters.select_node.Goals as goal
 

@@ -1,7 +1,7 @@
 use Rattle.std.proofs.Common.{◌≡◌, true, Some, refl, sym, ◌∙◌, is_some, slice_set}
 use Rattle.dom_model.specs.Definitions.{entry_in, unit_count, contents_of, check_contents, SelectNodeContents}
 use Rattle.dom_ranges.specs.Tables.{range_in}
-use Rattle.dom_session.specs.{declared.brief.Brief.TheVariants.Nothing, declared.brief.Brief.TheVariants.Dom, declared.reply.Reply.TheVariants.Brief}
+use Rattle.dom_commands.specs.{declared.brief.Brief.TheVariants.Nothing, declared.brief.Brief.TheVariants.Dom, declared.reply.Reply.TheVariants.Brief}
 use Rattle.dom_session.proofs.{RangeTableLemmas.step-ranges, RangeTableLemmas.step-refused, RangeFacts.node-covered, RangeAnswers.passed, RangeAnswers.told, RangeAnswers.answer-select_node_contents, RangeAnswers.refusal-select_node_contents}
 use Rattle.dom_session.proofs.range_setters.select_node_contents.Goals as goal
 

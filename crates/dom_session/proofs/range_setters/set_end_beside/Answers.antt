@@ -2,7 +2,7 @@ use Rattle.std.proofs.Common.{◌≡◌, true, refl, subst, ◌∙◌, arith, If
 use Rattle.std.proofs.lemmas.Grind.{common_steps}
 use Rattle.dom_model.specs.Definitions.{entry_in, IsBoundary, end_set}
 use Rattle.dom_ranges.specs.Tables.{range_in}
-use Rattle.dom_session.specs.{declared.brief.Brief.TheVariants.Nothing, declared.reply.Reply.TheVariants.Brief}
+use Rattle.dom_commands.specs.{declared.brief.Brief.TheVariants.Nothing, declared.reply.Reply.TheVariants.Brief}
 use Rattle.dom_session.proofs.{RangeTableLemmas.step-set, RangeFacts.node-covered, RangeAnswers.answer-sets_end}
 use Rattle.dom_session.proofs.range_setters.set_end_beside.Goals as goal
 

@@ -3,7 +3,8 @@ use Rattle.std.proofs.lemmas.{Bool.Decides.nat_tests, List.Elements.All-push}
 use Rattle.dom_model.specs.Definitions.{entry_in, Point, Range, check_static, CreateStaticRange}
 use Rattle.dom_ranges.specs.Tables.{result_of_check}
 use Rattle.dom_edit.specs.Whole.{AreHeld}
-use Rattle.dom_session.specs.{declared.brief.Brief.TheVariants.Number, declared.brief.Brief.TheVariants.Dom, declared.reply.Reply.TheVariants.Brief, AnswerBounds.numbered}
+use Rattle.dom_commands.specs.{declared.brief.Brief.TheVariants.Number, declared.brief.Brief.TheVariants.Dom, declared.reply.Reply.TheVariants.Brief}
+use Rattle.dom_session.specs.{AnswerBounds.numbered}
 use Rattle.dom_session.proofs.{GuardedLemmas.step-stays, RangeTableLemmas.step-statics, RangeAnswers.passed, RangeAnswers.told, RangeAnswers.answer-create_static_range, RangeAnswers.refusal-create_static_range}
 use Rattle.dom_session.proofs.static_ranges.create_static_range.Goals as goal
 

@@ -1,5 +1,5 @@
 use Rattle.std.proofs.Common.{sym, ◌∙◌}
-use Rattle.dom_session.specs.Brief.{reply_of}
+use Rattle.dom_commands.specs.Brief.{reply_of}
 use Rattle.dom_session.proofs.TraversalSteps.{step-previous_node}
 use Rattle.dom_session.proofs.traversal.previous_node.Goals as goal
 

@@ -1,7 +1,7 @@
 use Rattle.std.proofs.Common.{refl, ◌≡◌, true, is_some}
 use Rattle.dom_model.specs.Definitions.{entry_in}
 use Rattle.dom_traverse.specs.Items.{walker_in}
-use Rattle.dom_session.specs.{declared.brief.Brief.TheVariants.Nothing, declared.reply.Reply.TheVariants.Brief}
+use Rattle.dom_commands.specs.{declared.brief.Brief.TheVariants.Nothing, declared.reply.Reply.TheVariants.Brief}
 use Rattle.dom_session.proofs.TraversalSteps.{step-set_current}
 use Rattle.dom_session.proofs.traversal.set_current.Goals as goal
 

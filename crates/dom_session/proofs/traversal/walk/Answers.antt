@@ -1,5 +1,5 @@
 use Rattle.std.proofs.Common.{sym, ◌∙◌}
-use Rattle.dom_session.specs.Brief.{reply_of}
+use Rattle.dom_commands.specs.Brief.{reply_of}
 use Rattle.dom_session.proofs.TraversalSteps.{step-walk}
 use Rattle.dom_session.proofs.traversal.walk.Goals as goal
 

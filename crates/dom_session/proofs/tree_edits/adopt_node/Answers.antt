@@ -1,7 +1,7 @@
 use Rattle.std.proofs.Common.{◌≡◌, true, refl, is_some}
 use Rattle.dom_model.specs.Definitions.{entry_in, is_kind, AdoptNode, kind_passes, adopt}
 use Rattle.dom_model.specs.declared.Kind.TheVariants.{Document}
-use Rattle.dom_session.specs.{declared.brief.Brief.TheVariants.Number, declared.reply.Reply.TheVariants.Brief}
+use Rattle.dom_commands.specs.{declared.brief.Brief.TheVariants.Number, declared.reply.Reply.TheVariants.Brief}
 use Rattle.dom_edit.specs.Refusals.{check_adopt}
 use Rattle.dom_session.proofs.{GuardedLemmas.step-follows, GuardedLemmas.steps-refused-briefly, TreeEdits.answer-adopt_node, TreeEdits.refused-adopt_node, KeepsWholeWorldLemmas.kept_nodes}
 use Rattle.dom_session.proofs.tree_edits.adopt_node.Goals as goal
@@ -20,6 +20,7 @@ returns-in-Ok c =
           (λ w shown. answer-adopt_node old b d n w shown hd hn kind c.in-Ok.ensures.allowed)
           c.in-Ok.ensures.adopted c.adopt.ensures.whole);
       left = tt;
+      unobserved = λ none. tt;
     }
 
 pub returns-in-Err : goal.returns-in-Err
@@ -34,4 +35,5 @@ returns-in-Err c =
       step = steps-refused-briefly old c.adopt.new.self (AdoptNode d n) c.in-Err.refusal (check_adopt old.tree.forest n) c.brief_to.result c.brief_to.ensures c.in-Err.ensures.refused
           (λ b e named w shown. refused-adopt_node old b d n w shown hd hn kind e named);
       left = on_err c.brief_to.result (kept_nodes old c.adopt.new.self c.adopt.ensures.kept c.adopt.ensures.whole);
+      unobserved = λ none. on_err c.brief_to.result (c.in-Err.ensures.unchanged none);
     }

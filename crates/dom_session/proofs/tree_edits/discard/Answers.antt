@@ -3,7 +3,8 @@ use Rattle.std.proofs.lemmas.Bool.{not-false, not-true}
 use Rattle.dom_model.specs.declared.OwnError.TheVariants.{InUse}
 use Rattle.dom_model.specs.Definitions.{entry_in, Discard, is_in_use, discarded}
 use Rattle.dom_edit.specs.{declared.world.World.World, UsedNodes.is_used}
-use Rattle.dom_session.specs.{declared.brief.Brief.TheVariants.Nothing, declared.brief.Brief.TheVariants.Own, declared.reply.Reply.TheVariants.Brief, SessionViews.IsStep}
+use Rattle.dom_commands.specs.{declared.brief.Brief.TheVariants.Nothing, declared.brief.Brief.TheVariants.Own, declared.reply.Reply.TheVariants.Brief}
+use Rattle.dom_session.specs.{SessionViews.IsStep}
 use Rattle.dom_session.proofs.{GuardedLemmas.step-follows, GuardedLemmas.step-stays, TreeEdits.answer-discard, TreeEdits.refused-discard}
 use Rattle.dom_session.proofs.tree_edits.discard.Goals as goal
 

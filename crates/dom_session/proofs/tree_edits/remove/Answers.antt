@@ -1,7 +1,7 @@
 use Rattle.std.proofs.Common.{◌≡◌, true, false, refl, ◌∙◌, arith, is_some}
 use Rattle.std.proofs.lemmas.Grind.{common_steps}
 use Rattle.dom_model.specs.Definitions.{entry_in, Remove, is_child_node, kind_passes, remove}
-use Rattle.dom_session.specs.{declared.brief.Brief.TheVariants.Nothing, declared.reply.Reply.TheVariants.Brief}
+use Rattle.dom_commands.specs.{declared.brief.Brief.TheVariants.Nothing, declared.reply.Reply.TheVariants.Brief}
 use Rattle.dom_session.proofs.{GuardedLemmas.step-follows, TreeEdits.kind_passes-label, TreeEdits.answer-remove}
 use Rattle.dom_session.proofs.tree_edits.remove.Goals as goal
 
@@ -17,6 +17,7 @@ returns c =
           (λ w shown. answer-remove old b n w shown hn kind)
           c.in_ok-remove.ensures.removed c.remove.ensures.whole;
       left = tt;
+      unobserved = λ none. tt;
     }
 
 pub returns-then-not-is_child_node : goal.returns-then-not-is_child_node

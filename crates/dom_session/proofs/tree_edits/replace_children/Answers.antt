@@ -2,7 +2,8 @@ use Rattle.std.proofs.Common.{◌≡◌, true, false, not, refl, ap, sym, ◌∙
 use Rattle.std.proofs.lemmas.Bool.{not-true}
 use Rattle.dom_model.specs.Definitions.{entry_in, Label, may_be_parent, ReplaceChildren, replace_all}
 use Rattle.dom_model.specs.declared.DomError.TheVariants.{TypeError}
-use Rattle.dom_session.specs.{declared.brief.Brief.TheVariants.Nothing, declared.brief.Brief.TheVariants.Dom, declared.reply.Reply.TheVariants.Brief, Refusals.lacks_given}
+use Rattle.dom_commands.specs.{declared.brief.Brief.TheVariants.Nothing, declared.brief.Brief.TheVariants.Dom, declared.reply.Reply.TheVariants.Brief}
+use Rattle.dom_session.specs.{Refusals.lacks_given}
 use Rattle.dom_edit.specs.Refusals.{check_only_child}
 use Rattle.dom_session.proofs.{GuardedLemmas.step-follows, GuardedLemmas.step-stays, GuardedLemmas.steps-refused-briefly, TreeEdits.kind_passes-label, TreeEdits.answer-replace_children, TreeEdits.refused-replace_children, TreeEdits.refused-parent, KeepsWholeWorldLemmas.kept_nodes}
 use Rattle.dom_session.proofs.tree_edits.replace_children.Goals as goal
@@ -21,6 +22,7 @@ returns-then-not-may_be_parent c =
     record {
       step = λ b. step-stays b (ReplaceChildren p n) (Brief (Dom TypeError)) old (λ w shown. refused-parent old b p n w shown hp kind hn);
       left = tt;
+      unobserved = λ none. tt;
     }
 
 pub returns-in-Ok : goal.returns-in-Ok
@@ -38,6 +40,7 @@ returns-in-Ok c =
           (λ w shown. answer-replace_children old b p w shown hp kind n hn c.in-Ok.ensures.allowed)
           c.in-Ok.ensures.replaced c.replace_children.ensures.whole;
       left = tt;
+      unobserved = λ none. tt;
     }
 
 pub returns-in-Err : goal.returns-in-Err
@@ -54,4 +57,5 @@ returns-in-Err c =
       step = steps-refused-briefly old c.replace_children.new.self (ReplaceChildren p n) c.in-Err.refusal (check_only_child old.tree.forest p n) c.brief_to.result c.brief_to.ensures c.in-Err.ensures.refused
           (λ b e named w shown. refused-replace_children old b p w shown hp kind n e hn named);
       left = on_err c.brief_to.result (kept_nodes old c.replace_children.new.self c.replace_children.ensures.kept c.replace_children.ensures.whole);
+      unobserved = λ none. on_err c.brief_to.result (c.in-Err.ensures.unchanged none);
     }

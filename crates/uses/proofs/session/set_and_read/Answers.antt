@@ -1,6 +1,7 @@
 use Rattle.std.proofs.Common.{◌≡◌, subst}
 use Rattle.dom_model.specs.Definitions.{SetData, GetData, answer}
-use Rattle.dom_session.specs.{SessionViews.StandsFor, Views.reply_view}
+use Rattle.dom_commands.specs.{Views.reply_view}
+use Rattle.dom_session.specs.{SessionViews.StandsFor}
 use Rattle.uses.specs.Turns.{after_command}
 use Rattle.uses.proofs.session.set_and_read.Goals as goal
 

@@ -1,7 +1,10 @@
-use Rattle.std.proofs.Common.{◌≡◌, true, false, ap, Ok, Err}
+use Rattle.std.proofs.Common.{◌≡◌, ◌&&◌, true, false, ap, Ok, Err}
+use Rattle.std.proofs.lemmas.Bool.{and_parts}
 use Rattle.dom_session.specs.declared.session.OutOfMemory.{OutOfMemory}
-use Rattle.dom_wire.specs.Sessions.{command_view}
-use Rattle.dom_c.proofs.Spared.{not_ended, steps-after_end, steps-taken, steps-spared, steps-ended}
+use Rattle.dom_session.proofs.GoingOn.{none-listed, either-way}
+use Rattle.dom_session.specs.Sessions.{command_view, goes_on, is_all_or_nothing_unobserved}
+use Rattle.dom_c.specs.Answers.{is_unobserved}
+use Rattle.dom_c.proofs.Spared.{not_ended, had_ended, steps-after_end, steps-taken, steps-spared, steps-ended}
 use Rattle.dom_c.proofs.handle_state.HandleState.apply.Goals as goal
 
 pub returns-then-self : goal.returns-then-self
@@ -23,7 +26,13 @@ returns-in-Err-Refused c =
 
 pub returns-in-Err-Ended : goal.returns-in-Err-Ended
 returns-in-Err-Ended c =
+    let old = c.args.self.now.session in
+    let command = command_view c.args.command in
     let ended = c.in-Err-Ended.ensures.ended (ap (λ (e : OutOfMemory). Err e) c.in-Err-Ended.field-0-is) in
     rw (c.end.ensures.kept, c.end.ensures.status)
     (steps-ended (Ok (command_view c.args.command)) c.args.self.now c.apply.new.self c.apply.ensures.bounds
-    (λ going is_open. absurd (not_ended c.args.self.now.session c.apply.new.self (c.in-Err-Ended.ensures.all_or_nothing going) is_open ended)))
+    (λ going is_open. absurd (either-way (goes_on command) (is_unobserved old && is_all_or_nothing_unobserved command) going
+    (λ goes. not_ended old c.apply.new.self (c.in-Err-Ended.ensures.all_or_nothing goes) is_open ended)
+    (λ both.
+    let parts = and_parts (is_unobserved old) (is_all_or_nothing_unobserved command) both in
+    had_ended old c.apply.new.self (c.in-Err-Ended.ensures.unobserved parts.1 (none-listed old.world.observers.nodes parts.0)) is_open ended))))

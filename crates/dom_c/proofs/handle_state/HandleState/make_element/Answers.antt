@@ -1,6 +1,7 @@
 use Rattle.std.proofs.Common.{◌≡◌, true, false, ap, Ok, Err}
 use Rattle.dom_model.specs.Definitions.{CreateElement}
-use Rattle.dom_session.specs.{declared.session.OutOfMemory.OutOfMemory, Brief.reply_of}
+use Rattle.dom_commands.specs.{Brief.reply_of}
+use Rattle.dom_session.specs.{declared.session.OutOfMemory.OutOfMemory}
 use Rattle.dom_c.proofs.Spared.{not_ended, steps-after_end, steps-taken, steps-spared, steps-ended}
 use Rattle.dom_c.proofs.handle_state.HandleState.make_element.Goals as goal
 

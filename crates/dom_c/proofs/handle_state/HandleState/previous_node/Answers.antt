@@ -1,6 +1,6 @@
 use Rattle.std.proofs.Common.{◌≡◌, true, false, Ok}
 use Rattle.dom_model.specs.Definitions.{PreviousNode}
-use Rattle.dom_session.specs.Brief.{reply_of}
+use Rattle.dom_commands.specs.Brief.{reply_of}
 use Rattle.dom_c.proofs.Spared.{had_ended, steps-after_end, steps-taken, steps-ended}
 use Rattle.dom_c.proofs.handle_state.HandleState.previous_node.Goals as goal
 

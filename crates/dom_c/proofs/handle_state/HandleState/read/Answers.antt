@@ -1,7 +1,8 @@
 use Rattle.std.proofs.Common.{◌≡◌, ◌∙◌, Bool, false, Ok, refl, sym, ap, subst, inl}
 use Rattle.dom_model.specs.Definitions.{Command, World}
-use Rattle.dom_session.specs.{declared.reply.Reply.Reply, SessionViews.IsAnswered, Views.reading_view}
-use Rattle.dom_wire.specs.Sessions.{SessionView, StandsFor, reply_view}
+use Rattle.dom_commands.specs.{declared.reply.Reply.Reply, Views.reading_view}
+use Rattle.dom_session.specs.{SessionViews.IsAnswered}
+use Rattle.dom_session.specs.Sessions.{SessionView, StandsFor, reply_view}
 use Rattle.dom_c.specs.{Answers.Ends, Answers.StepsState, Answers.AsksOrEnded, Answers.step_for, Answers.with_reply, Statuses.status_of, declared.handle_state.HandleState.HandleState}
 use Rattle.dom_c.proofs.Spared.{with_session}
 use Rattle.dom_c.proofs.handle_state.HandleState.read.Goals as goal

@@ -34,9 +34,6 @@ returns-clause-inserted c =
     (follows-freed_alone v c.remove_node.new.self n (n ∷ []) c.requires.alone left))
     c.insert_all.ensures.inserted
 
-pub returns-in_err-reserve_child-clause-left : goal.returns-in_err-reserve_child-clause-left
-returns-in_err-reserve_child-clause-left c last root a h newer l = subst (LeavesAll a) (sym c.reserve_child.ensures) l
-
 pub returns-in_err-remove_node-clause-left : goal.returns-in_err-remove_node-clause-left
 returns-in_err-remove_node-clause-left c last root a h newer l =
     let same = sym c.reserve_child.ensures in
@@ -49,12 +46,6 @@ returns-clause-left c last root a h newer l =
     c.insert_all.ensures.left last a h newer
     (same-left a h c.reserve_child.new.self c.remove_node.new.self
     (c.remove_node.ensures.root (subst (λ (w : World). parent_of w.tree.forest c.args.node ≡ None) same root)) (subst (LeavesAll a) same l))
-
-pub returns-in_err-reserve_child-clause-kept : goal.returns-in_err-reserve_child-clause-kept
-returns-in_err-reserve_child-clause-kept c = subst (KeepsNodes c.args.self.now) (sym c.reserve_child.ensures) (nodes-none c.args.self.now)
-
-pub returns-in_err-reserve_child-clause-whole : goal.returns-in_err-reserve_child-clause-whole
-returns-in_err-reserve_child-clause-whole c = subst IsWhole (sym c.reserve_child.ensures) c.requires.whole
 
 pub returns-in_err-remove_node-clause-kept : goal.returns-in_err-remove_node-clause-kept
 returns-in_err-remove_node-clause-kept c = subst (λ (w : World). KeepsNodes w c.remove_node.new.self) c.reserve_child.ensures c.remove_node.ensures.kept

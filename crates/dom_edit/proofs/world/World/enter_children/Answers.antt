@@ -61,12 +61,6 @@ returns-then-is_empty-clause-kept c = nodes-none c.args.self.now
 pub returns-then-is_empty-clause-whole : goal.returns-then-is_empty-clause-whole
 returns-then-is_empty-clause-whole c = search (tests, rules)
 
-pub returns-in_err-reserve_children-clause-kept : goal.returns-in_err-reserve_children-clause-kept
-returns-in_err-reserve_children-clause-kept c = subst (KeepsNodes c.args.self.now) (sym c.reserve_children.ensures) (nodes-none c.args.self.now)
-
-pub returns-in_err-reserve_children-clause-whole : goal.returns-in_err-reserve_children-clause-whole
-returns-in_err-reserve_children-clause-whole c = subst IsWhole (sym c.reserve_children.ensures) c.requires.whole
-
 pub returns-in_err-remove_all-clause-kept : goal.returns-in_err-remove_all-clause-kept
 returns-in_err-remove_all-clause-kept c = subst (λ (w : World). KeepsNodes w c.remove_all.new.self) c.reserve_children.ensures c.remove_all.ensures.kept
 

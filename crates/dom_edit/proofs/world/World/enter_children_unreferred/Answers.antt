@@ -62,12 +62,6 @@ returns-then-is_empty-clause-kept c = nodes-none c.args.self.now
 pub returns-then-is_empty-clause-whole : goal.returns-then-is_empty-clause-whole
 returns-then-is_empty-clause-whole c = search (tests, rules)
 
-pub returns-in_err-reserve_children-clause-kept : goal.returns-in_err-reserve_children-clause-kept
-returns-in_err-reserve_children-clause-kept c = subst (KeepsNodes c.args.self.now) (sym c.reserve_children.ensures) (nodes-none c.args.self.now)
-
-pub returns-in_err-reserve_children-clause-whole : goal.returns-in_err-reserve_children-clause-whole
-returns-in_err-reserve_children-clause-whole c = subst IsWhole (sym c.reserve_children.ensures) c.requires.whole
-
 pub returns-in_err-remove_all_unreferred-clause-kept : goal.returns-in_err-remove_all_unreferred-clause-kept
 returns-in_err-remove_all_unreferred-clause-kept c = subst (λ (w : World). KeepsNodes w c.remove_all_unreferred.new.self) c.reserve_children.ensures c.remove_all_unreferred.ensures.kept
 
@@ -88,9 +82,6 @@ returns-clause-whole c = search (tests, rules)
 
 pub returns-then-is_empty-clause-left : goal.returns-then-is_empty-clause-left
 returns-then-is_empty-clause-left c last a h newer l = l
-
-pub returns-in_err-reserve_children-clause-left : goal.returns-in_err-reserve_children-clause-left
-returns-in_err-reserve_children-clause-left c last a h newer l = subst (LeavesAll a) (sym c.reserve_children.ensures) l
 
 pub returns-in_err-remove_all_unreferred-clause-left : goal.returns-in_err-remove_all_unreferred-clause-left
 returns-in_err-remove_all_unreferred-clause-left c last a h newer l =

@@ -1,7 +1,7 @@
 -- The node is named, and those that the record names.
 use Rattle.std.proofs.Common.{[], ◌∷◌, ◌++◌, refl}
 use Rattle.dom_model.specs.Definitions.{if_any}
-use Rattle.dom_edit.proofs.{AreThereLemmas.there-append, AreThereLemmas.there-told, AreThereLemmas.whole-named, KeepsNodesLemmas.none-there, KeepsNodesLemmas.one-there}
+use Rattle.dom_edit.proofs.{AreThereLemmas.there-append, AreThereLemmas.there-told, AreThereLemmas.whole-named, KeepsNodesLemmas.none-there, KeepsNodesLemmas.one-there, UnobservedLemmas.follows-unheard_removal}
 use Rattle.dom_edit.proofs.world.World.note_removal.Goals as goal
 
 pub returns-clause-whole : goal.returns-clause-whole
@@ -17,3 +17,7 @@ returns-clause-whole c =
 
 pub returns-clause-observers : goal.returns-clause-observers
 returns-clause-observers c = c.removed.ensures.made
+
+pub returns-then-is_idle-clause-noted : goal.returns-then-is_idle-clause-noted
+returns-then-is_idle-clause-noted c =
+    follows-unheard_removal c.args.self.now c.args.node c.args.parent c.args.previous c.args.next (λ x o. c.is_idle.ensures.idle x o c.if-is_idle.true)

@@ -29,3 +29,6 @@ returns-clause-left c last a h newer l =
     let ns = c.args.nodes.now in
     let e = placed-is p c.args.child ns v c.shift_ends.new.self c.put_all.new.tree c.shift_ends.ensures c.put_all.ensures in
     subst (LeavesAll a) (ap (λ b. with_placed p b ns v) (sym last) ∙ e) (placed-left a h p ns newer v l)
+
+pub returns-clause-observers : goal.returns-clause-observers
+returns-clause-observers c = ap (λ (w : World). w.observers) c.shift_ends.ensures

@@ -1,7 +1,7 @@
 use Rattle.std.proofs.Common.{◌∷◌, ◌++◌, refl, ap}
 use Rattle.dom_observe.specs.Watchers.{Watchers}
 use Rattle.dom_model.specs.Definitions.{if_any}
-use Rattle.dom_edit.proofs.AreThereLemmas.{there-told, whole-named}
+use Rattle.dom_edit.proofs.{AreThereLemmas.there-told, AreThereLemmas.whole-named, UnobservedLemmas.follows-unheard_record}
 use Rattle.dom_edit.proofs.world.World.queue_tree_record.Goals as goal
 
 pub returns-clause-whole : goal.returns-clause-whole
@@ -17,3 +17,7 @@ returns-clause-quiet c unnamed = ap (λ (o : Watchers). record c.args.self.now {
 
 pub returns-clause-observers : goal.returns-clause-observers
 returns-clause-observers c = c.queue_record.ensures.made
+
+pub returns-then-is_idle-clause-queued : goal.returns-then-is_idle-clause-queued
+returns-then-is_idle-clause-queued c =
+    follows-unheard_record c.args.self.now c.args.target c.args.added.now c.args.removed.now c.args.previous c.args.next (λ x o. c.is_idle.ensures.idle x o c.if-is_idle.true)

@@ -2,6 +2,7 @@ use Rattle.std.proofs.Common.{◌≡◌, ℕ, ◌+◌, true, List, [], ◌∷◌
 use Rattle.std.proofs.lemmas.List.{take_more}
 use Rattle.dom_model.specs.Definitions.{remove, remove_all}
 use Rattle.dom_model.proofs.Forests.Entries.{HasNode-occurs}
+use Rattle.dom_observe.specs.Watchers.{Watchers}
 use Rattle.dom_edit.specs.Whole.{Follows}
 use Rattle.dom_edit.proofs.{FollowsLemmas.follows-then, InsertLemmas.item-hit, InsertLemmas.remove_all-more, InsertLemmas.there-removed, InsertLemmas.follows-as, KeepsNodesLemmas.nodes-then}
 use Rattle.dom_edit.proofs.world.World.remove_all.Goals as goal
@@ -30,4 +31,7 @@ loop-node-preserved c =
       whole = c.in_ok-remove_node.ensures.whole;
       held = λ m h. there-removed v new n true c.loop-node.invariant.whole here step m (c.loop-node.invariant.held m h);
       kept = nodes-then first v new c.loop-node.invariant.kept c.in_ok-remove_node.ensures.kept;
+      unobserved = λ none.
+          let same = c.loop-node.invariant.unobserved none in
+          c.in_ok-remove_node.ensures.unobserved (ap (λ (o : Watchers). o.nodes) same ∙ none) ∙ same;
     }

@@ -1,7 +1,7 @@
 -- The nodes that were passed are removed; all are there still.
-use Rattle.std.proofs.Common.{take}
+use Rattle.std.proofs.Common.{◌≡◌, take}
 use Rattle.dom_model.specs.Definitions.{remove_all}
-use Rattle.dom_edit.specs.{Whole.IsWhole, Whole.Follows, KeptNodes.KeepsNodes, Insertion.AreThere}
+use Rattle.dom_edit.specs.{Whole.IsWhole, Whole.IsUnobserved, Whole.Follows, KeptNodes.KeepsNodes, Insertion.AreThere}
 use Rattle.dom_edit.proofs.world.World.remove_all.Given as goal
 
 abbrev pub invariant-loop-node : goal.invariant-loop-node
@@ -10,4 +10,5 @@ invariant-loop-node l = record {
   whole : IsWhole l.self;
   held : AreThere l.self.tree.forest l.nodes;
   kept : KeepsNodes l.fn.self l.self;
+  unobserved : IsUnobserved l.fn.self → l.self.observers ≡ l.fn.self.observers;
 }

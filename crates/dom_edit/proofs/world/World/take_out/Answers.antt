@@ -37,3 +37,6 @@ returns-clause-kept c =
     nodes-cut v new c.args.node c.requires.whole (ap (λ (w : World). w.tree) c.cut_out.ensures) (ap (λ (w : World). w.statics) c.cut_out.ensures) (ap (λ (w : World). w.walkers) c.cut_out.ensures)
     (watchers-cut v new c.args.node (ap (λ (w : World). present w.ranges.ranges) c.cut_out.ensures ∙ ap (λ (r : RangeTable). present r.ranges) moved ∙ present-moved _ v.ranges.ranges)
     (ap (λ (w : World). w.iterators) c.cut_out.ensures) (ap (λ (w : World). w.observers) c.cut_out.ensures))
+
+pub returns-clause-observers : goal.returns-clause-observers
+returns-clause-observers c = ap (λ (w : World). w.observers) c.cut_out.ensures

@@ -2,7 +2,7 @@
 use Rattle.std.proofs.Common.{◌≡◌, ℕ, ◌==◌, true, List, [], ◌∷◌, ◌++◌, length, filter, refl, ap, sym, ◌∙◌, subst, arith, flat_map, filter_map}
 use Rattle.dom_model.specs.Definitions.{ancestors, Mutation, standing_on, registered_on, interests, observers_of, among, with_all_last}
 use Rattle.dom_observe.specs.{WithoutRepeats.once, Watchers.Watchers, Watchers.Watches, Watchers.records_at, Watchers.on, Registrations.at, Invariant.registered_nodes, Invariant.has_queue, Roster.queues_by, Interested.listeners, ObservedNodes.nodes_of_mutation}
-use Rattle.dom_observe.proofs.{IsAwaitedLemmas.awaited-queued, NamedNodesLemmas.names-only, NamedNodesLemmas.names-same, NamedNodesLemmas.same-there, InterestedLemmas.all_last-there, ObserverKeysLemmas.indexed-same, ReleaseLemmas.each-there, RosterLemmas.has-same, RosterLemmas.length-same, ResultLemmas.on_both, ResultLemmas.at_err, InvariantLemmas.on-registered_nodes, InvariantLemmas.none_in, QueueRecordLemmas.standing_on-none, QueueRecordLemmas.standing_stands, QueueRecordLemmas.kept-queued, QueueRecordLemmas.told-queued, QueueRecordLemmas.pended-queued, WatchesLemmas.watches-noted, WatchesLemmas.watches-unheard, NoneInterestedLemmas.not_nothing, NoneInterestedLemmas.none-stand, NoneInterestedLemmas.none-standing, IsFrontLemmas.queued-same, IsFrontLemmas.partly-queued}
+use Rattle.dom_observe.proofs.{IsAwaitedLemmas.awaited-queued, NamedNodesLemmas.names-only, NamedNodesLemmas.names-same, NamedNodesLemmas.same-there, InterestedLemmas.all_last-there, ObserverKeysLemmas.indexed-same, ReleaseLemmas.each-there, RosterLemmas.has-same, RosterLemmas.length-same, ResultLemmas.on_both, ResultLemmas.both_err, ResultLemmas.at_err, InvariantLemmas.on-registered_nodes, InvariantLemmas.none_in, QueueRecordLemmas.standing_on-none, QueueRecordLemmas.standing_stands, QueueRecordLemmas.kept-queued, QueueRecordLemmas.told-queued, QueueRecordLemmas.pended-queued, WatchesLemmas.watches-noted, WatchesLemmas.watches-unheard, NoneInterestedLemmas.not_nothing, NoneInterestedLemmas.none-stand, NoneInterestedLemmas.none-standing}
 use Rattle.std.proofs.lemmas.Bool.{true≢false}
 use Rattle.dom_model.proofs.PlainLists.Numbers.{same_or, same, apart}
 use Rattle.dom_observe.proofs.observers.Observers.queue_record.Goals as goal
@@ -137,13 +137,13 @@ returns-clause-quiet g c unnamed =
     let nothing = c.in_ok-find_standing.ensures ∙ ap (λ k. flat_map (λ n. on n a.registrations.lists) (ancestors k c.args.tree.now.forest)) target ∙ none-there in
     absurd (not_nothing c.find_standing.new.keys.items c.find_standing.new.keys.len (sym c.find_standing.new.keys.ok.0) (sym c.is_empty-2.ensures ∙ c.if-is_empty-2.false) nothing)
 
-pub returns-in_err-find_standing-clause-partly : goal.returns-in_err-find_standing-clause-partly
-returns-in_err-find_standing-clause-partly g c = at_err c.from_residual.result (queued-same c.args.self.now _ c.self.view_is c.args.mutation.now)
+pub returns-in_err-find_standing-clause-err : goal.returns-in_err-find_standing-clause-err
+returns-in_err-find_standing-clause-err g c = at_err c.from_residual.result c.self.view_is
 
-pub returns-clause-partly : goal.returns-clause-partly
-returns-clause-partly g c =
+pub returns-clause-err : goal.returns-clause-err
+returns-clause-err g c =
     let a = c.self.inside in
-    let left =
-    partly-queued a.registrations (queues_by a.roster) a.pending.keys c.args.self.now c.self.view_is c.args.mutation.now (queues_by c.queue_for_interested.new.roster) c.queue_for_interested.new.pending.keys
-    c.queue_for_interested.ensures.front c.queue_for_interested.ensures.each in
-    at_err c.queue_for_interested.result left
+    both_err c.queue_for_interested.result c.queue_for_interested.ensures.err c.queue_for_interested.ensures.err_pending (λ queues pending.
+    let same : record { nodes = registered_nodes a.registrations; queues = queues_by c.queue_for_interested.new.roster; pending = c.queue_for_interested.new.pending.keys }
+    ≡ record { nodes = registered_nodes a.registrations; queues = queues_by a.roster; pending = a.pending.keys } = λ i. record { nodes = registered_nodes a.registrations; queues = queues i; pending = pending i } in
+    same ∙ c.self.view_is)

@@ -1,10 +1,10 @@
 -- Transient registrations are made, and then each observer that the mutation interests gets its record.
-use Rattle.dom_observe.proofs.{IsAwaitedLemmas.awaited-queued, NamedNodesLemmas.names-only, NamedNodesLemmas.names-same, NamedNodesLemmas.same-queues, NamedNodesLemmas.same-there, InterestedLemmas.all_last-there, InvariantLemmas.on-registered_nodes, ObserverKeysLemmas.indexed-by, ObserverKeysLemmas.indexed-same, ResultLemmas.on_both, ResultLemmas.at_err, QueueRecordLemmas.standing_on-none, QueueRecordLemmas.standing_stands, QueueRecordLemmas.kept-queued, QueueRecordLemmas.told-queued, QueueRecordLemmas.pended-queued, NoneInterestedLemmas.not_nothing, NoneInterestedLemmas.none-stand, NoneInterestedLemmas.none-standing, IsFrontLemmas.front-same, IsFrontLemmas.gets-none, IsFrontLemmas.removed-same, IsFrontLemmas.partly-removed, ReleaseLemmas.each-there, RemovedLemmas.listeners-alike, RemovedLemmas.stood, RemovedLemmas.standing-live, RemovedLemmas.standing-unnamed, RemovedLemmas.kept-left, RemovedLemmas.standing-left, RemovedLemmas.watches-none_above, RosterLemmas.has-same, RosterLemmas.length-same, TransientLemmas.transients-of_all, WatchesLemmas.watches-transients, WatchesLemmas.watches-noted}
+use Rattle.dom_observe.proofs.{IsAwaitedLemmas.awaited-queued, NamedNodesLemmas.names-only, NamedNodesLemmas.names-same, NamedNodesLemmas.same-queues, NamedNodesLemmas.same-there, InterestedLemmas.all_last-there, InvariantLemmas.on-registered_nodes, ObserverKeysLemmas.indexed-by, ObserverKeysLemmas.indexed-same, ResultLemmas.on_both, ResultLemmas.both_err, ResultLemmas.at_err, QueueRecordLemmas.standing_on-none, QueueRecordLemmas.standing_stands, QueueRecordLemmas.kept-queued, QueueRecordLemmas.told-queued, QueueRecordLemmas.pended-queued, NoneInterestedLemmas.not_nothing, NoneInterestedLemmas.none-stand, NoneInterestedLemmas.none-standing, IsFrontLemmas.front-same, IsFrontLemmas.gets-none, IsFrontLemmas.removed-same, IsFrontLemmas.partly-removed, ReleaseLemmas.each-there, RemovedLemmas.listeners-alike, RemovedLemmas.stood, RemovedLemmas.standing-live, RemovedLemmas.standing-unnamed, RemovedLemmas.kept-left, RemovedLemmas.standing-left, RemovedLemmas.watches-none_above, RosterLemmas.has-same, RosterLemmas.length-same, TransientLemmas.transients-of_all, WatchesLemmas.watches-transients, WatchesLemmas.watches-noted}
 use Rattle.std.proofs.Common.{◌≡◌, ℕ, ◌==◌, true, List, [], ◌∷◌, ◌++◌, length, refl, ap, sym, ◌∙◌, subst, arith, flat_map, filter_map, option_to_list}
 use Rattle.std.proofs.lemmas.Bool.{true≢false, or_parts}
 use Rattle.dom_model.specs.Definitions.{ancestors, Mutation, standing_on, registered_on, with_transients, observers_of, record_for, among, with_all_last}
 use Rattle.dom_model.proofs.PlainLists.Numbers.{same_or, same, apart}
-use Rattle.dom_observe.specs.{WithoutRepeats.once, Watchers.Watchers, Watchers.Watches, Watchers.records_at, Watchers.on, Registrations.at, Invariant.registered_nodes, Invariant.has_queue, Invariant.IsAwaited, Roster.lasting_by, Roster.passing_by, Roster.queues_by, QueuedNodes.RecordsNameNone, ObservedNodes.nodes_of_mutation, OutOfMemory.GetsAtMostOne, Interested.listeners}
+use Rattle.dom_observe.specs.{WithoutRepeats.once, Watchers.Watchers, Watchers.Watches, Watchers.records_at, Watchers.on, Registrations.at, Invariant.registered_nodes, Invariant.has_queue, Invariant.IsAwaited, Roster.lasting_by, Roster.passing_by, Roster.queues_by, QueuedNodes.RecordsNameNone, ObservedNodes.nodes_of_mutation, Interested.listeners}
 use Rattle.dom_observe.proofs.observers.Observers.removed.Goals as goal
 
 none : {A : Type 0} (xs : List A) → length xs ≡ 0 → xs ≡ []
@@ -264,8 +264,7 @@ returns-clause-partly g c =
     let b = c.add_transients.new in
     let d = c.queue_for_interested.new in
     let m = c.args.mutation.now in
-    let left =
+    both_err c.queue_for_interested.result c.queue_for_interested.ensures.err c.queue_for_interested.ensures.err_pending (λ queues pending.
     partly-removed a.registrations (queues_by a.roster) a.pending.keys c.args.self.now c.self.view_is b.registrations c.args.node
-    c.add_transients.ensures.front c.add_transients.ensures.elsewhere m (queues_by d.roster) d.pending.keys c.queue_for_interested.ensures.front
-    (λ i. subst (λ q. GetsAtMostOne m (records_at q i) (records_at (queues_by d.roster) i)) c.add_transients.ensures.queues (c.queue_for_interested.ensures.each i)) in
-    at_err c.queue_for_interested.result left
+    c.add_transients.ensures.front c.add_transients.ensures.elsewhere m (queues_by d.roster) d.pending.keys (front-same a.pending.keys d.pending.keys pending)
+    (λ i. gets-none m (records_at (queues_by a.roster) i) (records_at (queues_by d.roster) i) (ap (λ q. records_at q i) (queues ∙ c.add_transients.ensures.queues))))

@@ -1,5 +1,5 @@
 use Rattle.std.proofs.Common.{refl}
-use Rattle.dom_wire.specs.Sessions.{bounds_of}
+use Rattle.dom_session.specs.Sessions.{bounds_of}
 use Rattle.dom_serve.proofs.FedLemmas.{Stands-new}
 use Rattle.dom_serve.proofs.server.Server.new.Goals as goal
 

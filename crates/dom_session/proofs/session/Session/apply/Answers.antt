@@ -1,6 +1,7 @@
 use Rattle.std.proofs.Common.{◌≡◌, ◌∙◌, true, false, ap, sym, subst, tests, rules}
 use Rattle.dom_edit.specs.{declared.world.World.World, Whole.IsWhole, Whole.IsShown}
-use Rattle.dom_session.specs.{SessionBounds.bounds_of, AnswerBounds.numbered, Views.command_view, GoingOn.goes_on, SessionViews.IsStep, OutOfMemory.KeepsWholeWorld, OutOfMemory.IsAsItWas}
+use Rattle.dom_commands.specs.{Views.command_view}
+use Rattle.dom_session.specs.{SessionBounds.bounds_of, AnswerBounds.numbered, GoingOn.goes_on, SessionViews.IsStep, OutOfMemory.KeepsWholeWorld, OutOfMemory.IsAsItWas}
 use Rattle.dom_session.proofs.{IsStepLemmas.IsShown-step, IsStepLemmas.IsAnswered-step, KeepsWholeWorldLemmas.kept_whole, KeepsWholeWorldLemmas.left_ended, KeepsWholeWorldLemmas.left_open, GoingOn.as_before, GoingOn.as_before-world, GoingOn.as_it_was-same, GoingOn.shown_as, GoingOn.going-asked}
 use Rattle.dom_session.proofs.session.Session.apply.Goals as goal
 
@@ -44,8 +45,8 @@ returns-then-self-clause-left c =
 pub returns-in-Ok-clause-left : goal.returns-in-Ok-clause-left
 returns-in-Ok-clause-left c = tt
 
-pub returns-else-stays_open-clause-left : goal.returns-else-stays_open-clause-left
-returns-else-stays_open-clause-left c =
+pub returns-else-is_unobserved-clause-left : goal.returns-else-is_unobserved-clause-left
+returns-else-is_unobserved-clause-left c =
     let on : c.self.inside.ended ≡ false = cc in
     rw (← c.self.view_is)
     (left_open (record { world = c.self.inside.world; bounds = bounds_of c.self.inside.limits; ended = c.self.inside.ended })
@@ -91,11 +92,11 @@ pub returns-then-stays_open-clause-all_or_nothing : goal.returns-then-stays_open
 returns-then-stays_open-clause-all_or_nothing c =
     rw (← c.self.view_is) (λ going. as_before-world c.self.inside.world c.answered.new.world (bounds_of c.self.inside.limits) c.self.inside.ended (subst (λ (v : World). IsAsItWas v c.answered.new.world) c.make_room.ensures (c.in-Err.ensures.goes_on going)))
 
-pub returns-else-stays_open-clause-asked : goal.returns-else-stays_open-clause-asked
-returns-else-stays_open-clause-asked c asked = absurd (cc (going-asked (command_view c.args.command) asked))
+pub returns-else-is_unobserved-clause-asked : goal.returns-else-is_unobserved-clause-asked
+returns-else-is_unobserved-clause-asked c asked = absurd (cc (going-asked (command_view c.args.command) asked))
 
-pub returns-else-stays_open-clause-all_or_nothing : goal.returns-else-stays_open-clause-all_or_nothing
-returns-else-stays_open-clause-all_or_nothing c going = absurd (cc going)
+pub returns-else-is_unobserved-clause-all_or_nothing : goal.returns-else-is_unobserved-clause-all_or_nothing
+returns-else-is_unobserved-clause-all_or_nothing c going = absurd (cc going)
 
 pub returns-then-self-clause-all_or_nothing : goal.returns-then-self-clause-all_or_nothing
 returns-then-self-clause-all_or_nothing c _ = as_before c.args.self.now

@@ -1,6 +1,7 @@
 use Rattle.std.proofs.Common.{◌≡◌, false, refl}
 use Rattle.dom_model.specs.Definitions.{CreateElement}
-use Rattle.dom_session.specs.{SessionBounds.bounds_of, Brief.reply_of, AnswerBounds.numbered}
+use Rattle.dom_commands.specs.{Brief.reply_of}
+use Rattle.dom_session.specs.{SessionBounds.bounds_of, AnswerBounds.numbered}
 use Rattle.dom_session.proofs.{IsStepLemmas.IsShown-step, IsStepLemmas.IsAnswered-by, KeepsWholeWorldLemmas.left_open, GoingOn.as_before, GoingOn.as_before-world, GoingOn.shown_as}
 use Rattle.dom_session.proofs.session.Session.create_element.Goals as goal
 

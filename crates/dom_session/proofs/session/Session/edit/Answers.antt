@@ -1,6 +1,7 @@
 use Rattle.std.proofs.Common.{◌≡◌, false, ap}
 use Rattle.dom_edit.specs.declared.world.World.{World}
-use Rattle.dom_session.specs.{SessionViews.SessionView, SessionBounds.bounds_of, AnswerBounds.numbered, Brief.reply_of, Views.editing_view}
+use Rattle.dom_commands.specs.{Brief.reply_of, Views.editing_view}
+use Rattle.dom_session.specs.{SessionViews.SessionView, SessionBounds.bounds_of, AnswerBounds.numbered}
 use Rattle.dom_session.proofs.IsStepLemmas.{IsShown-step, IsAnswered-editing}
 use Rattle.dom_session.proofs.session.Session.edit.Goals as goal
 

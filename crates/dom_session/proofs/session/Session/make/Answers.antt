@@ -1,5 +1,6 @@
 use Rattle.std.proofs.Common.{◌≡◌, false}
-use Rattle.dom_session.specs.{SessionBounds.bounds_of, AnswerBounds.numbered, Brief.reply_of, Views.making_view}
+use Rattle.dom_commands.specs.{Brief.reply_of, Views.making_view}
+use Rattle.dom_session.specs.{SessionBounds.bounds_of, AnswerBounds.numbered}
 use Rattle.dom_session.proofs.{IsStepLemmas.IsShown-step, IsStepLemmas.IsAnswered-making, KeepsWholeWorldLemmas.left_open, GoingOn.as_before, GoingOn.as_before-world, GoingOn.shown_as}
 use Rattle.dom_session.proofs.session.Session.make.Goals as goal
 

@@ -1,7 +1,8 @@
 use Rattle.std.proofs.Common.{◌≡◌, false, refl, ap}
 use Rattle.dom_model.specs.Definitions.{NextNode}
 use Rattle.dom_edit.specs.declared.world.World.{World}
-use Rattle.dom_session.specs.{SessionViews.SessionView, SessionBounds.bounds_of, Brief.reply_of, AnswerBounds.numbered}
+use Rattle.dom_commands.specs.{Brief.reply_of}
+use Rattle.dom_session.specs.{SessionViews.SessionView, SessionBounds.bounds_of, AnswerBounds.numbered}
 use Rattle.dom_session.proofs.IsStepLemmas.{IsShown-step, IsAnswered-by}
 use Rattle.dom_session.proofs.session.Session.next_node.Goals as goal
 

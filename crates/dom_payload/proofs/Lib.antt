@@ -1,0 +1,2 @@
+pub mod NoAttributes
+pub mod TailLemmas
