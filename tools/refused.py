@@ -57,9 +57,8 @@ STAND = {
 }
 # Tests of several scenes. Each of their growths is refused, so each scene meets its own.
 SCENES = {
-    ("tree_cases", "points::points_of_small_trees"),
-    ("range_cases", "ranges::scenes"),
-    ("range_cases", "statics::scenes"),
+    ("tree_cases", "tree::scenes"),
+    *(("edit_cases", f"{module}::scenes") for module in CRATES["edit_cases"]),
 }
 
 WANTING = b"domserve: out of memory\n"
@@ -67,7 +66,7 @@ UNWRITTEN = re.compile(rb"domserve: write failed(: (Bad file descriptor|No space
 COUNTS = re.compile(rb"growths (\d+), refused (\d+), left (-?\d+), most (\d+)\n")
 # A test's message of out of memory: its error, or its assertion that there is memory.
 SAYS = re.compile(rb"^error: Alloc(Error|Failed \{ \.\. \})$", re.M)
-ASSERTS = re.compile(rb"^(assertion failed: ([a-z_]+\.is_ok\(\)|through_a_pointer\(rt\.alloc\(\)\) == Some\(.*\))|  left: Err\(Failed\))$", re.M)
+ASSERTS = re.compile(rb"^assertion failed: [a-z_]+\.is_ok\(\)$", re.M)
 VALGRIND = ["valgrind", "-q", "--soname-synonyms=somalloc=nouserintercepts", "--error-exitcode=9"]
 VALGRIND += ["--leak-check=full", "--show-leak-kinds=all", "--errors-for-leak-kinds=all"]
 

@@ -9,7 +9,7 @@ be named in the file beside that folder. The bytes that a session reads give the
 that its commands make leave the ends, texts, worlds and contents that the commands leave. They hold by computation.
 
 Tests: for each subject a file in crates/dialogues/src, with its dialogues, each text on a line; and a file in crates/dialogue_cases/src
-with a test of each dialogue. A test serves its dialogue in these ways:
+with tests of some dialogues each, which name the one that fails. A test serves its dialogues in these ways:
 
 - whole, and in pieces
 - with refused growths
@@ -35,6 +35,9 @@ TESTS = "crates/dialogue_cases/src"
 # The files that are written, and those that are read beside the dialogues.
 WRITTEN = (THEOREMS, f"{THEOREMS}.antt", erased.THEOREMS, TABLES, TESTS)
 READ = ("crates.txt", erased.COMMANDS, erased.WATCHING)
+
+# The most bytes squared of the dialogues of one test.
+MOST = 3_400_000
 
 DEFAULTS = {"numbers": "4294967295", "line": "1048576"}
 
@@ -168,11 +171,27 @@ def row(name, given, wanted, bounds):
     )
 
 
-def cut_test(name):
-    """Returns the test of a dialogue's replies, however its bytes are cut. (All of a subject in one table cost the prover more steps than it may take.)"""
+def grouped(dialogues):
+    """Returns the names in groups that take a test about as long as the longest dialogues do. Serving one cut at each byte takes its length squared."""
+    groups = []
+    for name, (given, _, _) in sorted(dialogues.items(), key=lambda item: -len(item[1][0])):
+        cost = len(given) ** 2
+        for group in groups:
+            if group[0] + cost <= MOST:
+                group[0] += cost
+                group[1].append(name)
+                break
+        else:
+            groups.append([cost, [name]])
+    return [sorted(names) for _, names in groups]
+
+
+def cut_test(subject, number, names):
+    """Returns the test of some dialogues, however their bytes are cut. It names each, since one table of their texts costs the prover too many steps."""
+    listed = ", ".join(f"&{name.upper()}" for name in names)
     return (
-        f"\n#[test]\nfn {name}_cut_in_two(rt: HostRuntime) {{\n"
-        + f"    is_answered_in_two(&rt, rt.alloc(), &{name.upper()});\n}}\n"
+        f"\n#[test]\nfn {subject}_cut_in_two_{number}(rt: HostRuntime) {{\n"
+        + f"    for dialogue in [{listed}] {{\n        is_answered_in_two(&rt, rt.alloc(), dialogue);\n    }}\n}}\n"
     )
 
 
@@ -186,8 +205,8 @@ def write_tests(root, subject, dialogues):
     with open(os.path.join(root, TESTS, subject + ".rt"), "w") as out:
         names = ", ".join(name.upper() for name in dialogues)
         out.write(head + f"use crate::cuts::is_answered_in_two;\nuse dialogues::{subject}::{{{names}}};\n")
-        for name in dialogues:
-            out.write(cut_test(name))
+        for number, group in enumerate(grouped(dialogues), 1):
+            out.write(cut_test(subject, number, group))
 
 
 def write(root):

@@ -28,7 +28,7 @@ fn is_answered_in_pieces(rt: &impl Abort, alloc: Global, dialogue: &Dialogue) {
 
 /// Asserts the output of a dialogue: whole, in pieces, with refused allocations, and cut in two at each byte. Asserts its faults too.
 ///
-/// Each dialogue has a test that calls it, besides its text.
+/// The test of each subject calls it for all its dialogues.
 pub(crate) fn is_answered_in_two(rt: &impl Abort, alloc: Global, dialogue: &Dialogue) {
     is_answered_over_memory(rt, alloc, dialogue);
     is_answered_in_pieces(rt, alloc, dialogue);

@@ -1,29 +1,13 @@
-//! Failing reads, writes and flushes, and inputs that do not end within the number of reads.
+//! Failing reads, writes and flushes, how often is flushed, and inputs that do not end within the number of reads.
 
 use crate::memory::limits_of;
 use dialogues::Dialogue;
-use dom_serve::{Fault, FromRead, Summary, ToWrite, serve, serve_within};
+use dom_serve::{Fault, Summary, ToWrite, serve, serve_within};
 use stated_pieces::{Taker, USUAL, all_taken, first_lines, in_pieces, newlines, serve_all};
 use std::alloc::Global;
 use std::process::Abort;
 
-const TWO_TREES: &[u8] = b"[\"tree\",0]\n[\"tree\",0]";
-
-const ONE_TREE_PRINTED: &[u8] = b"{\"ok\":[[0,0,9,\"#document\"]]}\n";
-
-#[test]
-fn a_read_fails_after_a_whole_line(rt: HostRuntime) {
-    for (most, reads) in [(1, 20), (7, 3), (65536, 1), (11, 1)] {
-        let mut reader = in_pieces(TWO_TREES, most);
-        reader.reads = reads;
-        let served = serve_all(rt.alloc(), USUAL, reader);
-        assert!(rt;
-            served.ended == Err(Fault::Read) && served.is_clean,
-            "{most}"
-        );
-        assert!(rt; served.written.as_slice() == ONE_TREE_PRINTED, "{most}");
-    }
-}
+const TWO_LINES: &[u8] = b"[\"tree\",0]\n[\"tree\",0]\n";
 
 // Asserts that a failed read after `reads` others is reported, and that the replies to all lines read until then were written. Returns whether that
 // read was made.
@@ -172,19 +156,6 @@ pub(crate) fn is_told_of_each_fault(rt: &impl Abort, alloc: Global, dialogue: &D
     fills_each_room(rt, alloc, dialogue);
 }
 
-// A full slice takes no more bytes.
-#[test]
-fn a_write_that_takes_no_bytes_fails(rt: HostRuntime) {
-    let mut space = [0u8; 40];
-    let mut reader = FromRead::new(TWO_TREES);
-    let mut writer = ToWrite::new(&mut space[..]);
-    let ended = serve(rt.alloc(), USUAL, &mut reader, &mut writer);
-    assert_eq!(rt; ended, Err(Fault::Write));
-    let _rest = writer.into_inner();
-    assert!(rt; ONE_TREE_PRINTED.get(..) == space.get(..29));
-    assert!(rt; ONE_TREE_PRINTED.get(..11) == space.get(29..));
-}
-
 #[test]
 fn more_reads_than_are_allowed(rt: HostRuntime) {
     for (input, ended) in [
@@ -199,4 +170,14 @@ fn more_reads_than_are_allowed(rt: HostRuntime) {
             b"{\"error\":\"bad-json\"}\n{\"error\":\"bad-json\"}\n{\"error\":\"bad-json\"}\n";
         assert!(rt; writer.taken.as_slice() == first_lines(lines, input.len()));
     }
+}
+
+// Each of the two lines is flushed once.
+#[test]
+fn every_line_is_passed_on(rt: HostRuntime) {
+    let mut reader = in_pieces(TWO_LINES, 1);
+    let mut writer = all_taken(rt.alloc());
+    let ended = serve(rt.alloc(), USUAL, &mut reader, &mut writer);
+    assert!(rt; ended.is_ok() && writer.flushed);
+    assert_eq!(rt; writer.flushes, u64::MAX - 2);
 }

@@ -6,8 +6,6 @@ mod bad_input;
 #[cfg(test)]
 mod cuts;
 #[cfg(test)]
-mod failing_once;
-#[cfg(test)]
 mod faults;
 #[cfg(test)]
 mod lines_and_limits;

@@ -4,11 +4,10 @@
 use crate::memory::limits_of;
 use dialogues::Dialogue;
 use dialogues::trees_and_data::TREE_PRINTED;
-use dom_serve::{Fault, Summary, serve};
+use dom_serve::{Fault, serve};
 use stated_pieces::{Taker, USUAL, all_taken, first_lines, in_pieces};
 use std::alloc::{AllocError, Global};
 use std::process::Abort;
-use std::test::Fail;
 
 const OUT_OF_MEMORY: &[u8] = b"{\"error\":\"out-of-memory\"}\n";
 
@@ -48,11 +47,6 @@ pub(crate) fn is_answered_or_wants(rt: &impl Abort, alloc: Global, dialogue: &Di
     }
 }
 
-#[test]
-fn first_dialogue_under_refusals(rt: HostRuntime) {
-    is_answered_or_wants(&rt, rt.alloc(), &TREE_PRINTED);
-}
-
 // Asserts that serving ends if the writer fails after `writes` writes, or if it is out of memory.
 fn fails_or_wants(rt: &impl Abort, alloc: Global, mut writer: Taker, writes: u8) {
     let dialogue = &TREE_PRINTED;
@@ -71,22 +65,11 @@ fn fails_or_wants(rt: &impl Abort, alloc: Global, mut writer: Taker, writes: u8)
 
 // Each reply is one write, and so is the out-of-memory line.
 #[test]
-fn failing_writers_under_refusals(rt: HostRuntime) {
+fn first_dialogue_under_refusals(rt: HostRuntime) {
+    is_answered_or_wants(&rt, rt.alloc(), &TREE_PRINTED);
     for writes in 0..3u8 {
         if let Ok(writer) = roomy(rt.alloc()) {
             fails_or_wants(&rt, rt.alloc(), writer, writes);
         }
     }
-}
-
-// Asserts the output of one dialogue if no allocation is refused.
-#[test]
-fn first_dialogue_with_memory(rt: HostRuntime) -> Result<(), Fail> {
-    let dialogue = &TREE_PRINTED;
-    let mut writer = roomy(rt.alloc())?;
-    let mut reader = in_pieces(dialogue.input(), 65536);
-    let ended = serve(rt.alloc(), USUAL, &mut reader, &mut writer);
-    assert_eq!(rt; ended, Ok(Summary { lines: 3 }));
-    assert!(rt; writer.taken.as_slice() == dialogue.output());
-    Ok(())
 }

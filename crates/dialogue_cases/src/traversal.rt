@@ -7,36 +7,27 @@ use dialogues::traversal::{
 };
 
 #[test]
-fn filters_by_kind_and_name_cut_in_two(rt: HostRuntime) {
-    is_answered_in_two(&rt, rt.alloc(), &FILTERS_BY_KIND_AND_NAME);
+fn traversal_cut_in_two_1(rt: HostRuntime) {
+    for dialogue in [&WALKER_OUTSIDE_ITS_ROOT, &WALKER_PAST_ITS_ROOT] {
+        is_answered_in_two(&rt, rt.alloc(), dialogue);
+    }
 }
 
 #[test]
-fn iterator_falls_back_cut_in_two(rt: HostRuntime) {
-    is_answered_in_two(&rt, rt.alloc(), &ITERATOR_FALLS_BACK);
+fn traversal_cut_in_two_2(rt: HostRuntime) {
+    for dialogue in [&WALKER_LISTS] {
+        is_answered_in_two(&rt, rt.alloc(), dialogue);
+    }
 }
 
 #[test]
-fn iterator_gives_way_cut_in_two(rt: HostRuntime) {
-    is_answered_in_two(&rt, rt.alloc(), &ITERATOR_GIVES_WAY);
-}
-
-#[test]
-fn walker_lists_cut_in_two(rt: HostRuntime) {
-    is_answered_in_two(&rt, rt.alloc(), &WALKER_LISTS);
-}
-
-#[test]
-fn walker_moves_cut_in_two(rt: HostRuntime) {
-    is_answered_in_two(&rt, rt.alloc(), &WALKER_MOVES);
-}
-
-#[test]
-fn walker_outside_its_root_cut_in_two(rt: HostRuntime) {
-    is_answered_in_two(&rt, rt.alloc(), &WALKER_OUTSIDE_ITS_ROOT);
-}
-
-#[test]
-fn walker_past_its_root_cut_in_two(rt: HostRuntime) {
-    is_answered_in_two(&rt, rt.alloc(), &WALKER_PAST_ITS_ROOT);
+fn traversal_cut_in_two_3(rt: HostRuntime) {
+    for dialogue in [
+        &FILTERS_BY_KIND_AND_NAME,
+        &ITERATOR_FALLS_BACK,
+        &ITERATOR_GIVES_WAY,
+        &WALKER_MOVES,
+    ] {
+        is_answered_in_two(&rt, rt.alloc(), dialogue);
+    }
 }

@@ -1,7 +1,7 @@
 //! The program's statuses.
 
-use crate::{Patient, fault_text, run};
-use dom_serve::{Fault, FromRead, ToWrite};
+use crate::{Patient, run};
+use dom_serve::{FromRead, ToWrite};
 use std::io::{self, ErrorKind, Read, Write};
 use std::rt::Clock;
 use std::test::Fail;
@@ -37,25 +37,38 @@ impl Write for FailingWriter {
     }
 }
 
+const ALONE: &[&str] = &["domserve"];
+
+const WITH_HELP: &[&str] = &["domserve", "--help"];
+
+const WITH_LIMITS: &[&str] = &["domserve", "--line", "2", "--numbers", "1"];
+
+const UNREADABLE: &[u8] = b"{\"error\":\"bad-json\"}\n{\"error\":\"bad-command\"}\n";
+
+const TOO_LONG: &[u8] = b"{\"error\":\"line-too-long\"}\n{\"error\":\"line-too-long\"}\n";
+
 #[test]
-fn serves_the_reader(rt: HostRuntime) -> Result<(), Fail> {
-    let mut reader = FromRead::new(&b"\n[1]\n"[..]);
-    let mut writer = ToWrite::new(Vec::new(rt.alloc()));
-    let mut errors = ToWrite::new(Vec::new(rt.alloc()));
-    let status = run(
-        rt.alloc(),
-        ["domserve"].as_slice(),
-        false,
-        &mut reader,
-        &mut writer,
-        &mut errors,
-    );
-    assert_eq!(rt; status, 0);
-    assert_eq!(rt; errors.into_inner().is_empty(), true);
-    let written = writer.into_inner();
-    let wanted = b"{\"error\":\"bad-json\"}\n{\"error\":\"bad-command\"}\n";
-    assert_eq!(rt; written.as_slice(), wanted.as_slice());
-    Ok(())
+fn serves_the_reader(rt: HostRuntime) {
+    for (words, input, wanted) in [
+        (ALONE, b"\n[1]\n".as_slice(), UNREADABLE),
+        (WITH_LIMITS, b"[ ]\n[1]".as_slice(), TOO_LONG),
+    ] {
+        let count = words.len();
+        let mut reader = FromRead::new(input);
+        let mut writer = ToWrite::new(Vec::new(rt.alloc()));
+        let mut errors = ToWrite::new(Vec::new(rt.alloc()));
+        let status = run(
+            rt.alloc(),
+            words,
+            false,
+            &mut reader,
+            &mut writer,
+            &mut errors,
+        );
+        assert_eq!(rt; status, 0, "{count} words");
+        assert!(rt; errors.into_inner().is_empty(), "{count} words");
+        assert!(rt; writer.into_inner().as_slice() == wanted, "{count} words");
+    }
 }
 
 #[test]
@@ -65,7 +78,7 @@ fn gives_help(rt: HostRuntime) -> Result<(), Fail> {
     let mut errors = ToWrite::new(Vec::new(rt.alloc()));
     let status = run(
         rt.alloc(),
-        ["domserve", "--help"].as_slice(),
+        WITH_HELP,
         false,
         &mut reader,
         &mut writer,
@@ -80,118 +93,99 @@ fn gives_help(rt: HostRuntime) -> Result<(), Fail> {
     Ok(())
 }
 
-#[test]
-fn help_that_is_not_written_is_a_fault(rt: HostRuntime) -> Result<(), Fail> {
-    let mut reader = FromRead::new(&b"\n"[..]);
-    let mut writer = ToWrite::new(FailingWriter(NO_SPACE));
-    let mut errors = ToWrite::new(Vec::new(rt.alloc()));
-    let status = run(
-        rt.alloc(),
-        ["domserve", "--help"].as_slice(),
-        false,
-        &mut reader,
-        &mut writer,
-        &mut errors,
-    );
-    assert_eq!(rt; status, 3);
-    assert_eq!(rt;
-        errors.into_inner().as_slice(),
-        b"domserve: write failed: No space left on device\n".as_slice()
-    );
-    Ok(())
-}
+const NO_NUMBER: &str = "error: --line wants a whole number from 1 to 1073741824, not 'x'\n";
 
-/// Returns the status for one option, if nothing is read and written.
-fn status_of(rt: &HostRuntime, option: &str, value: &str) -> Result<u8, Fail> {
-    let mut reader = FromRead::new(FailingReader(IS_A_DIRECTORY));
-    let mut writer = ToWrite::new(Vec::new(rt.alloc()));
-    let mut errors = ToWrite::new(Vec::new(rt.alloc()));
-    let words = ["domserve", option, value];
-    let status = run(
-        rt.alloc(),
-        words.as_slice(),
-        false,
-        &mut reader,
-        &mut writer,
-        &mut errors,
-    );
-    if errors.into_inner().is_empty() || !writer.into_inner().is_empty() {
-        return Ok(9);
-    }
-    Ok(status)
-}
-
+// Nothing is read or written. Of most mistakes only some words are due.
 #[test]
 fn refuses_words(rt: HostRuntime) -> Result<(), Fail> {
-    assert_eq!(rt; status_of(&rt, "--line", "0")?, 2);
-    assert_eq!(rt; status_of(&rt, "--line", "1073741825")?, 2);
-    assert_eq!(rt; status_of(&rt, "--numbers", "0")?, 2);
-    assert_eq!(rt; status_of(&rt, "--numbers", "4294967296")?, 2);
-    assert_eq!(rt; status_of(&rt, "--lines", "1")?, 2);
+    for (option, value, due) in [
+        ("--line", "0", ""),
+        ("--line", "1073741825", ""),
+        ("--numbers", "0", ""),
+        ("--numbers", "4294967296", ""),
+        ("--lines", "1", ""),
+        ("--line", "x", NO_NUMBER),
+    ] {
+        let mut reader = FromRead::new(FailingReader(IS_A_DIRECTORY));
+        let mut writer = ToWrite::new(Vec::new(rt.alloc()));
+        let mut errors = ToWrite::new(Vec::new(rt.alloc()));
+        let words = ["domserve", option, value];
+        let status = run(
+            rt.alloc(),
+            words.as_slice(),
+            false,
+            &mut reader,
+            &mut writer,
+            &mut errors,
+        );
+        assert_eq!(rt; status, 2, "{option} {value}");
+        assert!(rt; writer.into_inner().is_empty(), "{option} {value}");
+        let said = String::from_utf8(errors.into_inner())?;
+        assert!(rt; !said.as_str().is_empty(), "{option} {value}");
+        assert!(rt; said.as_str().starts_with(due), "{option} {value}");
+    }
     Ok(())
 }
 
+// Only a write notices that nobody reads a pipe.
 #[test]
-fn takes_a_line_limit(rt: HostRuntime) -> Result<(), Fail> {
-    let mut reader = FromRead::new(&b"[ ]\n[1]"[..]);
-    let mut writer = ToWrite::new(Vec::new(rt.alloc()));
-    let mut errors = ToWrite::new(Vec::new(rt.alloc()));
-    let status = run(
-        rt.alloc(),
-        ["domserve", "--line", "2", "--numbers", "1"].as_slice(),
-        false,
-        &mut reader,
-        &mut writer,
-        &mut errors,
-    );
-    assert_eq!(rt; status, 0);
-    let written = writer.into_inner();
-    let wanted = b"{\"error\":\"line-too-long\"}\n{\"error\":\"line-too-long\"}\n";
-    assert_eq!(rt; written.as_slice(), wanted.as_slice());
-    Ok(())
+fn a_failed_read_is_a_fault(rt: HostRuntime) {
+    for (number, said) in [
+        (
+            IS_A_DIRECTORY,
+            b"domserve: read failed: Is a directory\n".as_slice(),
+        ),
+        (
+            BROKEN_PIPE,
+            b"domserve: read failed: Broken pipe\n".as_slice(),
+        ),
+    ] {
+        let mut reader = FromRead::new(FailingReader(number));
+        let mut writer = ToWrite::new(Vec::new(rt.alloc()));
+        let mut errors = ToWrite::new(Vec::new(rt.alloc()));
+        let status = run(
+            rt.alloc(),
+            ALONE,
+            false,
+            &mut reader,
+            &mut writer,
+            &mut errors,
+        );
+        assert_eq!(rt; status, 3, "{number}");
+        assert!(rt; errors.into_inner().as_slice() == said, "{number}");
+        assert!(rt; writer.into_inner().is_empty(), "{number}");
+    }
 }
 
-#[test]
-fn a_failed_read_is_a_fault(rt: HostRuntime) -> Result<(), Fail> {
-    let mut reader = FromRead::new(FailingReader(IS_A_DIRECTORY));
-    let mut writer = ToWrite::new(Vec::new(rt.alloc()));
-    let mut errors = ToWrite::new(Vec::new(rt.alloc()));
-    let status = run(
-        rt.alloc(),
-        ["domserve"].as_slice(),
-        false,
-        &mut reader,
-        &mut writer,
-        &mut errors,
-    );
-    assert_eq!(rt; status, 3);
-    assert_eq!(rt;
-        errors.into_inner().as_slice(),
-        b"domserve: read failed: Is a directory\n".as_slice()
-    );
-    assert_eq!(rt; writer.into_inner().is_empty(), true);
-    Ok(())
-}
+const NO_SPACE_SAID: &[u8] = b"domserve: write failed: No space left on device\n";
 
+// At a closed pipe the program says nothing.
 #[test]
-fn a_failed_write_is_a_fault(rt: HostRuntime) -> Result<(), Fail> {
-    let mut reader = FromRead::new(&b"\n"[..]);
-    let mut writer = ToWrite::new(FailingWriter(NO_SPACE));
-    let mut errors = ToWrite::new(Vec::new(rt.alloc()));
-    let status = run(
-        rt.alloc(),
-        ["domserve"].as_slice(),
-        false,
-        &mut reader,
-        &mut writer,
-        &mut errors,
-    );
-    assert_eq!(rt; status, 3);
-    assert_eq!(rt;
-        errors.into_inner().as_slice(),
-        b"domserve: write failed: No space left on device\n".as_slice()
-    );
-    Ok(())
+fn a_failed_write_is_a_fault(rt: HostRuntime) {
+    for (words, number, due, said) in [
+        (ALONE, NO_SPACE, 3, NO_SPACE_SAID),
+        (WITH_HELP, NO_SPACE, 3, NO_SPACE_SAID),
+        (ALONE, BROKEN_PIPE, 141, b"".as_slice()),
+        (WITH_HELP, BROKEN_PIPE, 141, b"".as_slice()),
+    ] {
+        let count = words.len();
+        let mut reader = FromRead::new(&b"\n"[..]);
+        let mut writer = ToWrite::new(FailingWriter(number));
+        let mut errors = ToWrite::new(Vec::new(rt.alloc()));
+        let status = run(
+            rt.alloc(),
+            words,
+            false,
+            &mut reader,
+            &mut writer,
+            &mut errors,
+        );
+        assert_eq!(rt; status, due, "{count} words, {number}");
+        assert!(rt;
+            errors.into_inner().as_slice() == said,
+            "{count} words, {number}"
+        );
+    }
 }
 
 #[test]
@@ -201,111 +195,34 @@ fn errors_that_are_not_written_are_ignored(rt: HostRuntime) {
     let mut errors = ToWrite::new(FailingWriter(NO_SPACE));
     let status = run(
         rt.alloc(),
-        ["domserve"].as_slice(),
+        ALONE,
         false,
         &mut reader,
         &mut writer,
         &mut errors,
     );
     assert_eq!(rt; status, 3);
-}
-
-/// Returns the status at a closed pipe, or 9 if a message was written.
-fn status_at_a_closed_pipe(rt: &HostRuntime, words: &[&str]) -> Result<u8, Fail> {
-    let mut reader = FromRead::new(&b"\n"[..]);
-    let mut writer = ToWrite::new(FailingWriter(BROKEN_PIPE));
-    let mut errors = ToWrite::new(Vec::new(rt.alloc()));
-    let status = run(
-        rt.alloc(),
-        words,
-        false,
-        &mut reader,
-        &mut writer,
-        &mut errors,
-    );
-    if !errors.into_inner().is_empty() {
-        return Ok(9);
-    }
-    Ok(status)
-}
-
-#[test]
-fn a_closed_pipe_is_silent(rt: HostRuntime) -> Result<(), Fail> {
-    let alone = status_at_a_closed_pipe(&rt, ["domserve"].as_slice())?;
-    assert_eq!(rt; alone, 141);
-    let for_help = status_at_a_closed_pipe(&rt, ["domserve", "--help"].as_slice())?;
-    assert_eq!(rt; for_help, 141);
-    Ok(())
-}
-
-// Only a write notices that nobody reads a pipe.
-#[test]
-fn a_read_at_a_closed_pipe_has_a_message(rt: HostRuntime) -> Result<(), Fail> {
-    let mut reader = FromRead::new(FailingReader(BROKEN_PIPE));
-    let mut writer = ToWrite::new(Vec::new(rt.alloc()));
-    let mut errors = ToWrite::new(Vec::new(rt.alloc()));
-    let status = run(
-        rt.alloc(),
-        ["domserve"].as_slice(),
-        false,
-        &mut reader,
-        &mut writer,
-        &mut errors,
-    );
-    assert_eq!(rt; status, 3);
-    assert_eq!(rt;
-        errors.into_inner().as_slice(),
-        b"domserve: read failed: Broken pipe\n".as_slice()
-    );
-    Ok(())
-}
-
-/// Returns the number of lines written at a terminal, or 9 if the status is not 0.
-fn lines_at_a_terminal(rt: &HostRuntime, words: &[&str]) -> Result<usize, Fail> {
-    let mut reader = FromRead::new(&b""[..]);
-    let mut writer = ToWrite::new(Vec::new(rt.alloc()));
-    let mut errors = ToWrite::new(Vec::new(rt.alloc()));
-    let status = run(
-        rt.alloc(),
-        words,
-        true,
-        &mut reader,
-        &mut writer,
-        &mut errors,
-    );
-    if status != 0 {
-        return Ok(9);
-    }
-    let said = String::from_utf8(errors.into_inner())?;
-    Ok(said.as_str().lines().count())
 }
 
 #[test]
 fn a_hint_at_a_terminal(rt: HostRuntime) -> Result<(), Fail> {
-    let alone = lines_at_a_terminal(&rt, ["domserve"].as_slice())?;
-    assert_eq!(rt; alone, 1);
-    let for_help = lines_at_a_terminal(&rt, ["domserve", "--help"].as_slice())?;
-    assert_eq!(rt; for_help, 0);
-    Ok(())
-}
-
-#[test]
-fn limits_in_plain_words(rt: HostRuntime) -> Result<(), Fail> {
-    let mut reader = FromRead::new(FailingReader(IS_A_DIRECTORY));
-    let mut writer = ToWrite::new(Vec::new(rt.alloc()));
-    let mut errors = ToWrite::new(Vec::new(rt.alloc()));
-    let status = run(
-        rt.alloc(),
-        ["domserve", "--line", "x"].as_slice(),
-        false,
-        &mut reader,
-        &mut writer,
-        &mut errors,
-    );
-    assert_eq!(rt; status, 2);
-    let said = String::from_utf8(errors.into_inner())?;
-    let due = "error: --line wants a whole number from 1 to 1073741824, not 'x'\n";
-    assert!(rt; said.as_str().starts_with(due));
+    for (words, lines) in [(ALONE, 1usize), (WITH_HELP, 0)] {
+        let count = words.len();
+        let mut reader = FromRead::new(&b""[..]);
+        let mut writer = ToWrite::new(Vec::new(rt.alloc()));
+        let mut errors = ToWrite::new(Vec::new(rt.alloc()));
+        let status = run(
+            rt.alloc(),
+            words,
+            true,
+            &mut reader,
+            &mut writer,
+            &mut errors,
+        );
+        assert_eq!(rt; status, 0, "{count} words");
+        let said = String::from_utf8(errors.into_inner())?;
+        assert_eq!(rt; said.as_str().lines().count(), lines, "{count} words");
+    }
     Ok(())
 }
 
@@ -370,15 +287,4 @@ fn calls_are_made_again_until_a_stream_is_ready(rt: HostRuntime) {
         let mut stream = Patient::new(NoTime, NotReady { calls: 40, fails });
         assert_eq!(rt; stream.write(b"a").is_err(), fails);
     }
-}
-
-#[test]
-fn texts_of_faults(rt: HostRuntime) {
-    assert_eq!(rt; fault_text(&Fault::Read), "domserve: read failed");
-    assert_eq!(rt; fault_text(&Fault::Write), "domserve: write failed");
-    assert_eq!(rt; fault_text(&Fault::Memory), "domserve: out of memory");
-    assert_eq!(rt;
-        fault_text(&Fault::InputTooLong),
-        "domserve: input too long"
-    );
 }

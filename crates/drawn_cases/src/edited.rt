@@ -59,13 +59,14 @@ fn stand_in_gaps(
     alloc: Global,
     text: &[Token],
     ranges: &[Ends],
+    name: &str,
 ) -> Result<(), AllocError> {
     for (range, ends) in ranges.iter().enumerate() {
         let start = gap_of(alloc, text, Token::Mark(range, Side::Start))?;
         let end = gap_of(alloc, text, Token::Mark(range, Side::End))?;
         assert!(rt;
             start == Some(ends.start) && end == Some(ends.end),
-            "{range}"
+            "{name} {range}"
         );
     }
     Ok(())
@@ -74,7 +75,7 @@ fn stand_in_gaps(
 // Asserts that a tree and its ranges are drawn as a text.
 fn is_drawn(rt: &impl Abort, alloc: Global, told: &Told, text: &str) -> Result<(), AllocError> {
     let tokens = draw(alloc, told)?;
-    stand_in_gaps(rt, alloc, tokens.as_slice(), told.ranges.as_slice())?;
+    stand_in_gaps(rt, alloc, tokens.as_slice(), told.ranges.as_slice(), text)?;
     let letters = written(alloc, tokens.as_slice())?;
     assert!(rt; letters.as_str() == text, "{text}");
     Ok(())
@@ -103,7 +104,13 @@ fn is_edited(
     after: &Told,
 ) -> Result<(), AllocError> {
     let edited = edited_text(alloc, text, case.edit)?;
-    stand_in_gaps(rt, alloc, edited.as_slice(), after.ranges.as_slice())?;
+    stand_in_gaps(
+        rt,
+        alloc,
+        edited.as_slice(),
+        after.ranges.as_slice(),
+        case.after,
+    )?;
     is_text_of(rt, alloc, edited.as_slice(), after, case.after)
 }
 
@@ -134,58 +141,53 @@ fn tell_as_due(rt: &impl Abort, alloc: Global, case: &Case, replies: &[u8]) -> R
 fn is_drawn_and_edited(rt: &impl Abort, alloc: Global, case: &Case) -> Result<(), Fail> {
     let lines = asked(alloc, case)?;
     let served = serve_all(alloc, USUAL, in_pieces(lines.as_slice(), 65536));
-    assert!(rt; served.ended.is_ok() && served.is_clean);
+    let name = case.before;
+    assert!(rt; served.ended.is_ok() && served.is_clean, "{name}");
     tell_as_due(rt, alloc, case, served.written.as_slice())
 }
 
 #[test]
-fn an_insertion(rt: HostRuntime) -> Result<(), Fail> {
-    let case = Case {
-        input: ENDS_AFTER_INSERTION.input(),
-        lines: 10,
-        ranges: 1,
-        edit: Edit::Move(4, Point { node: 1, offset: 0 }),
-        before: r#"<p>"a""[0b""n]0"</p>"#,
-        after: r#"<p>"n""a""[0b"]0</p>"#,
-    };
-    is_drawn_and_edited(&rt, rt.alloc(), &case)
-}
-
-#[test]
-fn replaced_data(rt: HostRuntime) -> Result<(), Fail> {
-    let case = Case {
-        input: ENDS_AFTER_REPLACED_DATA.input(),
-        lines: 7,
-        ranges: 2,
-        edit: Edit::Splice(Point { node: 1, offset: 2 }, 3, b"XY"),
-        before: r#""ab[0c]0de[1f]1g""#,
-        after: r#""ab[0]0[1XYf]1g""#,
-    };
-    is_drawn_and_edited(&rt, rt.alloc(), &case)
-}
-
-#[test]
-fn data_cut_off(rt: HostRuntime) -> Result<(), Fail> {
-    let case = Case {
-        input: ENDS_AFTER_REPLACED_DATA.input(),
-        lines: 11,
-        ranges: 2,
-        edit: Edit::Splice(Point { node: 1, offset: 4 }, 4294967295, b""),
-        before: r#""ab[0]0[1XYf]1g""#,
-        after: r#""ab[0]0[1XY]1""#,
-    };
-    is_drawn_and_edited(&rt, rt.alloc(), &case)
-}
-
-#[test]
-fn a_split(rt: HostRuntime) -> Result<(), Fail> {
-    let case = Case {
-        input: ENDS_AFTER_SPLIT.input(),
-        lines: 11,
-        ranges: 2,
-        edit: Edit::Parting(Point { node: 2, offset: 2 }, 4),
-        before: r#"<p>"ab[0c]0d"[1"e"]1</p>"#,
-        after: r#"<p>"ab[0""c]0d"[1"e"]1</p>"#,
-    };
-    is_drawn_and_edited(&rt, rt.alloc(), &case)
+fn edits_drawn_twice(rt: HostRuntime) -> Result<(), Fail> {
+    let cases = [
+        // A Text is inserted ahead of another.
+        Case {
+            input: ENDS_AFTER_INSERTION.input(),
+            lines: 10,
+            ranges: 1,
+            edit: Edit::Move(4, Point { node: 1, offset: 0 }),
+            before: r#"<p>"a""[0b""n]0"</p>"#,
+            after: r#"<p>"n""a""[0b"]0</p>"#,
+        },
+        // Units are replaced.
+        Case {
+            input: ENDS_AFTER_REPLACED_DATA.input(),
+            lines: 7,
+            ranges: 2,
+            edit: Edit::Splice(Point { node: 1, offset: 2 }, 3, b"XY"),
+            before: r#""ab[0c]0de[1f]1g""#,
+            after: r#""ab[0]0[1XYf]1g""#,
+        },
+        // Units are cut off.
+        Case {
+            input: ENDS_AFTER_REPLACED_DATA.input(),
+            lines: 11,
+            ranges: 2,
+            edit: Edit::Splice(Point { node: 1, offset: 4 }, 4294967295, b""),
+            before: r#""ab[0]0[1XYf]1g""#,
+            after: r#""ab[0]0[1XY]1""#,
+        },
+        // A Text is split.
+        Case {
+            input: ENDS_AFTER_SPLIT.input(),
+            lines: 11,
+            ranges: 2,
+            edit: Edit::Parting(Point { node: 2, offset: 2 }, 4),
+            before: r#"<p>"ab[0c]0d"[1"e"]1</p>"#,
+            after: r#"<p>"ab[0""c]0d"[1"e"]1</p>"#,
+        },
+    ];
+    for case in &cases {
+        is_drawn_and_edited(&rt, rt.alloc(), case)?;
+    }
+    Ok(())
 }

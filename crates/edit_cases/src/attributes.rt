@@ -81,11 +81,6 @@ const AN_ATTRIBUTE_IS_SET: &[Row] = &[
     ),
 ];
 
-#[test]
-fn an_attribute_is_set(rt: HostRuntime) -> Result<(), Fail> {
-    played(&rt, rt.alloc(), SMALL_WORLD, AN_ATTRIBUTE_IS_SET)
-}
-
 const REMOVE: Call = Call::Change(1, Change::RemoveAttribute("id"));
 
 // Sets an attribute, and removes it.
@@ -99,11 +94,6 @@ const AN_ATTRIBUTE_IS_REMOVED: &[Row] = &[
     Row::Again(REMOVE),
     Row::Then(When::Always, &[Fact::Attributes(1, 0)]),
 ];
-
-#[test]
-fn an_attribute_is_removed(rt: HostRuntime) -> Result<(), Fail> {
-    played(&rt, rt.alloc(), SMALL_WORLD, AN_ATTRIBUTE_IS_REMOVED)
-}
 
 const ADD_BY_TOGGLING: Call = Call::Change(1, Change::ToggleAttribute("id", true));
 
@@ -125,6 +115,11 @@ const AN_ATTRIBUTE_IS_TOGGLED: &[Row] = &[
 ];
 
 #[test]
-fn an_attribute_is_toggled(rt: HostRuntime) -> Result<(), Fail> {
-    played(&rt, rt.alloc(), SMALL_WORLD, AN_ATTRIBUTE_IS_TOGGLED)
+fn scenes(rt: HostRuntime) -> Result<(), Fail> {
+    let scenes = [
+        ("an attribute is set", AN_ATTRIBUTE_IS_SET),
+        ("an attribute is removed", AN_ATTRIBUTE_IS_REMOVED),
+        ("an attribute is toggled", AN_ATTRIBUTE_IS_TOGGLED),
+    ];
+    played(&rt, rt.alloc(), SMALL_WORLD, &scenes)
 }

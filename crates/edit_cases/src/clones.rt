@@ -85,11 +85,6 @@ const A_TREE_IS_COPIED: &[Row] = &[
     Row::Then(When::Always, ORIGINALS),
 ];
 
-#[test]
-fn a_tree_is_copied(rt: HostRuntime) -> Result<(), Fail> {
-    played(&rt, rt.alloc(), SMALL_WORLD, A_TREE_IS_COPIED)
-}
-
 // Clones element 1 alone.
 const A_NODE_IS_COPIED_ALONE: &[Row] = &[
     Row::Try(Call::New(New::Clone(1, false))),
@@ -105,11 +100,6 @@ const A_NODE_IS_COPIED_ALONE: &[Row] = &[
         ],
     ),
 ];
-
-#[test]
-fn a_node_is_copied_alone(rt: HostRuntime) -> Result<(), Fail> {
-    played(&rt, rt.alloc(), SMALL_WORLD, A_NODE_IS_COPIED_ALONE)
-}
 
 // Clones element 1 with its descendants into a second document.
 const A_TREE_IS_IMPORTED: &[Row] = &[
@@ -138,6 +128,11 @@ const A_TREE_IS_IMPORTED: &[Row] = &[
 ];
 
 #[test]
-fn a_tree_is_imported(rt: HostRuntime) -> Result<(), Fail> {
-    played(&rt, rt.alloc(), SMALL_WORLD, A_TREE_IS_IMPORTED)
+fn scenes(rt: HostRuntime) -> Result<(), Fail> {
+    let scenes = [
+        ("a tree is copied", A_TREE_IS_COPIED),
+        ("a node is copied alone", A_NODE_IS_COPIED_ALONE),
+        ("a tree is imported", A_TREE_IS_IMPORTED),
+    ];
+    played(&rt, rt.alloc(), SMALL_WORLD, &scenes)
 }

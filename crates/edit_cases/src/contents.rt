@@ -1,14 +1,14 @@
-//! The contents of a live range, which are read, deleted, extracted and cloned. After a call that is out of memory, the test continues in the world
+//! The contents of a live range, which are deleted, extracted and cloned. After a call that is out of memory, the test continues in the world
 //! that it left.
 
 ghost use Rattle.std.specs.Option.{IsSome};
 ghost use Rattle.dom_ranges.specs.Tables.{range_in};
 ghost use Rattle.dom_edit.specs.Whole.{IsWhole};
 
-use crate::facts::{Fact, NEW, OLDER, expect_units};
-use crate::scenes::{Ask, Call, New, Row, When, played};
+use crate::facts::{Fact, NEW, OLDER};
+use crate::scenes::{Call, New, Row, When, played};
 use crate::small_world::SMALL_WORLD;
-use dom_content::{clone_contents, delete_contents, extract, range_text};
+use dom_content::{clone_contents, delete_contents, extract};
 use dom_edit::{Refusal, World};
 use dom_point::{Point, checked_point, order};
 use dom_ranges::RangeId;
@@ -71,32 +71,6 @@ pub(crate) fn selected(rt: &impl Abort, world: &World) -> RangeId
     range
 }
 
-/// Asserts the data of the Texts in live range 0.
-pub(crate) fn expect_range_text(
-    rt: &impl Abort,
-    world: &World,
-    alloc: Global,
-    text: &str,
-) -> Result<(), Refusal>
-    requires { IsWhole world.now }
-{
-    let range = selected(rt, world);
-    let found = range_text(world, alloc, range)?;
-    expect_units(rt, found.units(), text);
-    Ok(())
-}
-
-// Reads the data of the Texts in the range.
-const THE_TEXT_OF_A_RANGE: &[Row] = &[
-    Row::Do(Call::Select(2, 5)),
-    Row::Do(Call::Ask(Ask::RangeText("bcde"))),
-];
-
-#[test]
-fn the_text_of_a_range(rt: HostRuntime) -> Result<(), Fail> {
-    played(&rt, rt.alloc(), SMALL_WORLD, THE_TEXT_OF_A_RANGE)
-}
-
 /// Deletes the contents of live range 0.
 pub(crate) fn delete(rt: &impl Abort, world: &mut World, alloc: Global) -> Result<(), Refusal>
     requires { IsWhole world.old }
@@ -124,11 +98,6 @@ const CONTENTS_ARE_DELETED: &[Row] = &[
         ],
     ),
 ];
-
-#[test]
-fn contents_are_deleted(rt: HostRuntime) -> Result<(), Fail> {
-    played(&rt, rt.alloc(), SMALL_WORLD, CONTENTS_ARE_DELETED)
-}
 
 /// Extracts the contents of live range 0 into a new fragment.
 pub(crate) fn extracted(
@@ -172,11 +141,6 @@ const CONTENTS_ARE_EXTRACTED: &[Row] = &[
     ),
 ];
 
-#[test]
-fn contents_are_extracted(rt: HostRuntime) -> Result<(), Fail> {
-    played(&rt, rt.alloc(), SMALL_WORLD, CONTENTS_ARE_EXTRACTED)
-}
-
 /// Clones the contents of live range 0 into a new fragment.
 pub(crate) fn contents_copied(
     rt: &impl Abort,
@@ -216,11 +180,6 @@ const CONTENTS_ARE_COPIED: &[Row] = &[
     ),
 ];
 
-#[test]
-fn contents_are_copied(rt: HostRuntime) -> Result<(), Fail> {
-    played(&rt, rt.alloc(), SMALL_WORLD, CONTENTS_ARE_COPIED)
-}
-
 // Clones and extracts the contents from inside element 3 to Text 5. The state after each refused allocation is whole, and the numbers show whether
 // there was one. Each fragment has a clone of element 3 with the end of Text 4 in it, and the beginning of Text 5. The element's clone first has a
 // fragment of its own, which is empty in the end.
@@ -256,12 +215,6 @@ const CONTENTS_THAT_BEGIN_INSIDE_AN_ELEMENT: &[Row] = &[
         ],
     ),
 ];
-
-#[test]
-fn contents_that_begin_inside_an_element(rt: HostRuntime) -> Result<(), Fail> {
-    let scene = CONTENTS_THAT_BEGIN_INSIDE_AN_ELEMENT;
-    played(&rt, rt.alloc(), SMALL_WORLD, scene)
-}
 
 // Clones and extracts the contents from Text 2 to inside element 3. Each fragment has the end of Text 2, and a clone of element 3 with the beginning
 // of Text 4.
@@ -299,7 +252,19 @@ const CONTENTS_THAT_END_INSIDE_AN_ELEMENT: &[Row] = &[
 ];
 
 #[test]
-fn contents_that_end_inside_an_element(rt: HostRuntime) -> Result<(), Fail> {
-    let scene = CONTENTS_THAT_END_INSIDE_AN_ELEMENT;
-    played(&rt, rt.alloc(), SMALL_WORLD, scene)
+fn scenes(rt: HostRuntime) -> Result<(), Fail> {
+    let scenes = [
+        ("contents are deleted", CONTENTS_ARE_DELETED),
+        ("contents are extracted", CONTENTS_ARE_EXTRACTED),
+        ("contents are copied", CONTENTS_ARE_COPIED),
+        (
+            "contents that begin inside an element",
+            CONTENTS_THAT_BEGIN_INSIDE_AN_ELEMENT,
+        ),
+        (
+            "contents that end inside an element",
+            CONTENTS_THAT_END_INSIDE_AN_ELEMENT,
+        ),
+    ];
+    played(&rt, rt.alloc(), SMALL_WORLD, &scenes)
 }

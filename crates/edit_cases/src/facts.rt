@@ -2,7 +2,7 @@
 
 ghost use Rattle.dom_model.specs.Forests.Forest.{HasNode};
 
-use dom_clone::{contains, is_equal, position};
+use dom_clone::is_equal;
 use dom_edit::{Content, World};
 use dom_point::Point;
 use dom_ranges::RangeId;
@@ -69,8 +69,6 @@ pub enum Fact {
     Attribute(u32, &'static str, &'static str),
     /// Both nodes are equal.
     Equal(u32, u32),
-    /// The position of the second node relative to the first, whether it is inside the first, and whether both are equal.
-    Stands(u32, u32, u16, bool, bool),
     /// Both ends of live range 0 are in element 1, at these offsets.
     Ends(usize, usize),
 }
@@ -135,17 +133,6 @@ fn expect_attribute(rt: &impl Abort, content: &Content, key: &str, value: &str) 
     }
 }
 
-// Returns the position of a node relative to another, whether it is inside the other, and whether both are equal.
-fn standing(rt: &impl Abort, world: &World, node: u32, other: u32) -> (u16, bool, bool) {
-    let (node, other) = (held(rt, world, node), held(rt, world, other));
-    let tree = &world.tree;
-    (
-        position(tree, node, other),
-        contains(tree, node, other),
-        is_equal(tree, node, other),
-    )
-}
-
 // Returns the offsets of both ends of live range 0, and asserts that they are in element 1.
 fn ends(rt: &impl Abort, world: &World) -> (usize, usize) {
     let (node, range) = (NodeId::new(1), RangeId::new(0));
@@ -153,16 +140,6 @@ fn ends(rt: &impl Abort, world: &World) -> (usize, usize) {
     let (start, end) = world.ranges.ends(range);
     assert!(rt; start.node == node && end.node == node);
     (start.offset, end.offset)
-}
-
-// Returns the previous sibling of a node.
-fn previous(rt: &impl Abort, world: &World, node: u32) -> Option<NodeId> {
-    world.tree.prev(held(rt, world, node))
-}
-
-// Returns the number of the node document of a node.
-fn document_of(rt: &impl Abort, world: &World, node: u32) -> u32 {
-    world.tree.document_of(held(rt, world, node)).number()
 }
 
 // Asserts a fact.
@@ -175,11 +152,12 @@ fn expect(rt: &impl Abort, world: &World, course: Course, fact: &Fact) {
         Fact::Children(parent, numbers) => expect_children(rt, world, course, parent, numbers),
         Fact::Roots(numbers) => expect_roots(rt, world, course, numbers),
         Fact::Behind(node, other) => {
-            let found = previous(rt, world, course.number(node));
-            assert_eq!(rt; found, Some(NodeId::new(other)));
+            let node = held(rt, world, course.number(node));
+            assert_eq!(rt; world.tree.prev(node), Some(NodeId::new(other)));
         }
         Fact::Document(node, document) => {
-            assert_eq!(rt; document_of(rt, world, course.number(node)), document);
+            let node = held(rt, world, course.number(node));
+            assert_eq!(rt; world.tree.document_of(node), NodeId::new(document));
         }
         Fact::Data(node, text) => {
             expect_units(rt, body(rt, world, course.number(node)).text(), text);
@@ -191,10 +169,8 @@ fn expect(rt: &impl Abort, world: &World, course: Course, fact: &Fact) {
             expect_attribute(rt, body(rt, world, node), key, value);
         }
         Fact::Equal(node, other) => {
-            assert!(rt; standing(rt, world, node, course.number(other)).2);
-        }
-        Fact::Stands(node, other, bits, inside, equal) => {
-            assert_eq!(rt; standing(rt, world, node, other), (bits, inside, equal));
+            let other = held(rt, world, course.number(other));
+            assert!(rt; is_equal(&world.tree, held(rt, world, node), other));
         }
         Fact::Ends(start, end) => assert_eq!(rt; ends(rt, world), (start, end)),
     }

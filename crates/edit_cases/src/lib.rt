@@ -1,4 +1,4 @@
-//! The tests of edits, data, attributes, copies and contents in a small world, also with refused allocations.
+//! The tests of edits, data, attributes, copies and contents in a small world, with refused allocations.
 #![tactic(auto)]
 
 #[cfg(test)]
@@ -8,20 +8,18 @@ mod clones;
 #[cfg(test)]
 mod contents;
 #[cfg(test)]
-mod copies;
-#[cfg(test)]
-mod documents;
-#[cfg(test)]
 mod facts;
+#[cfg(test)]
+mod in_scene;
 #[cfg(test)]
 mod range_insertion;
 #[cfg(test)]
 mod scenes;
+#[cfg(test)]
+mod sizes;
 #[cfg(test)]
 mod small_world;
 #[cfg(test)]
 mod texts;
 #[cfg(test)]
 mod tree_edits;
-#[cfg(test)]
-mod worlds;

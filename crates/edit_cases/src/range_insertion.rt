@@ -49,11 +49,6 @@ const A_NODE_IS_INSERTED_AT_A_START: &[Row] = &[
     ),
 ];
 
-#[test]
-fn a_node_is_inserted_at_a_start(rt: HostRuntime) -> Result<(), Fail> {
-    played(&rt, rt.alloc(), SMALL_WORLD, A_NODE_IS_INSERTED_AT_A_START)
-}
-
 /// Surrounds the contents of live range 0 with a node.
 pub(crate) fn put_around(
     rt: &impl Abort,
@@ -98,6 +93,13 @@ const CONTENTS_ARE_SURROUNDED: &[Row] = &[
 ];
 
 #[test]
-fn contents_are_surrounded(rt: HostRuntime) -> Result<(), Fail> {
-    played(&rt, rt.alloc(), SMALL_WORLD, CONTENTS_ARE_SURROUNDED)
+fn scenes(rt: HostRuntime) -> Result<(), Fail> {
+    let scenes = [
+        (
+            "a node is inserted at a start",
+            A_NODE_IS_INSERTED_AT_A_START,
+        ),
+        ("contents are surrounded", CONTENTS_ARE_SURROUNDED),
+    ];
+    played(&rt, rt.alloc(), SMALL_WORLD, &scenes)
 }

@@ -5,18 +5,15 @@ ghost use Rattle.dom_edit.specs.Whole.{IsWhole};
 
 use crate::attributes::{set, toggle, unset};
 use crate::clones::{copied, imported};
-use crate::contents::{contents_copied, delete, expect_range_text, extracted, select};
+use crate::contents::{contents_copied, delete, extracted, select};
 use crate::facts::{Course, Fact, expect_all};
+use crate::in_scene::InScene;
 use crate::range_insertion::{insert_at_start, put_around};
-use crate::small_world::{make, make_document, make_observer, make_with, watch};
-use crate::texts::{
-    expect_substring, expect_text_content, fill, join, replace_units, set_units, split_at,
-};
-use crate::tree_edits::{
-    adopt, append, clear, expect_discardable, insert, remove, remove_child, replace, replace_all,
-};
-use dom_edit::{Content, Refusal, World};
-use dom_kinds::{DomError, Kind};
+use crate::small_world::{make_document, make_observer, make_with, watch};
+use crate::texts::{fill, join, replace_units, set_units, split_at};
+use crate::tree_edits::{adopt, append, clear, insert, remove, remove_child, replace, replace_all};
+use dom_edit::{Refusal, World};
+use dom_kinds::Kind;
 use dom_tree::NodeId;
 use std::alloc::{AllocError, Global};
 use std::process::Abort;
@@ -27,8 +24,6 @@ use std::test::Fail;
 pub enum New {
     /// Makes a node of a kind with data, in document 0.
     Make(Kind, &'static str),
-    /// Makes a node of a kind without data, in document 0.
-    MakeBare(Kind),
     MakeDocument,
     /// Splits a Text at an offset.
     Split(u32, usize),
@@ -39,17 +34,6 @@ pub enum New {
     /// Extracts the contents of live range 0.
     Extract,
     CloneContents,
-}
-
-/// A call that changes nothing, with its expected value.
-#[derive(Clone, Copy)]
-pub enum Ask {
-    TextContent(u32, &'static str),
-    /// The data of a node from an offset on, at most this many units.
-    Substring(u32, usize, usize, &'static str),
-    /// The text of live range 0.
-    RangeText(&'static str),
-    CanDiscard(u32, bool),
 }
 
 /// A change of a node's data, attributes or children.
@@ -70,7 +54,6 @@ pub enum Change {
 #[derive(Clone, Copy)]
 pub enum Call {
     New(New),
-    Ask(Ask),
     Append(u32, u32),
     Insert(u32, u32, u32),
     /// Replaces the last of these nodes.
@@ -104,14 +87,10 @@ pub enum Call {
 pub enum Row {
     /// Makes a call, and repeats it if it is out of memory.
     Do(Call),
-    /// Makes a call once, and ends the scene if it is out of memory: it may have used a number, and later rows name nodes by numbers.
-    Once(Call),
     /// Makes a call, which may be out of memory.
     Try(Call),
     /// Makes a call if the last tried call was refused.
     Again(Call),
-    /// Expects that a call fails with an exception.
-    Fails(Call, DomError),
     /// Expects all these facts.
     Then(When, &'static [Fact]),
 }
@@ -135,30 +114,12 @@ fn made(rt: &impl Abort, world: &mut World, alloc: Global, new: New) -> Result<N
 {
     match new {
         New::Make(kind, text) => make_with(rt, world, alloc, kind, text),
-        New::MakeBare(kind) => make(rt, world, kind, Content::nothing()),
         New::MakeDocument => make_document(rt, world),
         New::Split(node, offset) => split_at(rt, world, alloc, node, offset),
         New::Clone(node, deep) => copied(rt, world, alloc, node, deep),
         New::Import(document, node) => imported(rt, world, alloc, document, node),
         New::Extract => extracted(rt, world, alloc),
         New::CloneContents => contents_copied(rt, world, alloc),
-    }
-}
-
-// Makes a call that changes nothing, and asserts its value.
-fn asked(rt: &impl Abort, world: &World, alloc: Global, ask: Ask) -> Result<(), Refusal>
-    requires { IsWhole world.now }
-{
-    match ask {
-        Ask::TextContent(node, text) => expect_text_content(rt, world, alloc, node, text),
-        Ask::Substring(node, offset, count, text) => {
-            expect_substring(rt, world, alloc, node, (offset, count), text)
-        }
-        Ask::RangeText(text) => expect_range_text(rt, world, alloc, text),
-        Ask::CanDiscard(node, free) => {
-            expect_discardable(rt, world, node, free);
-            Ok(())
-        }
     }
 }
 
@@ -203,7 +164,6 @@ fn called(
             course.answers(node.number());
             Ok(())
         }
-        Call::Ask(ask) => asked(rt, world, alloc, ask),
         Call::Append(parent, node) => append(rt, world, alloc, parent, node),
         Call::Insert(parent, node, child) => insert(rt, world, alloc, parent, node, child),
         Call::Replace(parent, node, child) => replace(rt, world, alloc, parent, node, child),
@@ -263,20 +223,11 @@ fn play_row(
                 return Err(AllocError);
             }
         }
-        Row::Once(call) => {
-            if !tried(rt, world, alloc, course, call) {
-                return Err(AllocError);
-            }
-        }
         Row::Try(call) => course.refused = !tried(rt, world, alloc, course, call),
         Row::Again(call) => {
             if course.refused && !tried(rt, world, alloc, course, call) {
                 return Err(AllocError);
             }
-        }
-        Row::Fails(call, error) => {
-            let outcome = called(rt, world, alloc, course, call);
-            assert_eq!(rt; outcome, Err(Refusal::Dom(error)));
         }
         Row::Then(when, facts) => {
             if is_due(world, *course, when) {
@@ -335,14 +286,22 @@ fn first(alloc: Global) -> Result<World, AllocError>
     }
 }
 
-/// Plays a scene in a world of its own, with document 0 and the given rows first. Only this function drops the world, because that takes long to
-/// prove.
+// Plays a scene in a world of its own, with document 0 and the given rows first. Only this function drops the world, because that takes long to prove.
+fn play_alone(rt: &impl Abort, alloc: Global, begun: &[Row], scene: &[Row]) -> Result<(), Fail> {
+    let mut world = first(alloc)?;
+    play_both(rt, &mut world, alloc, begun, scene)
+}
+
+/// Plays scenes, each with its name, and after the given rows. A failed assertion tells the name.
 pub(crate) fn played(
     rt: &impl Abort,
     alloc: Global,
     begun: &[Row],
-    scene: &[Row],
+    scenes: &[(&'static str, &[Row])],
 ) -> Result<(), Fail> {
-    let mut world = first(alloc)?;
-    play_both(rt, &mut world, alloc, begun, scene)
+    for (scene, rows) in scenes {
+        let told = InScene { rt, scene: *scene };
+        play_alone(&told, alloc, begun, rows)?;
+    }
+    Ok(())
 }

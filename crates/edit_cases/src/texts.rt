@@ -1,48 +1,21 @@
-//! Changes of data, Texts and attributes, and the text of nodes. After a call that is out of memory, the test continues in the world that it left.
+//! Changes of data and Texts. After a call that is out of memory, the test continues in the world that it left.
 
 ghost use Rattle.std.specs.Prelude.{◌≡◌, true};
 ghost use Rattle.dom_model.specs.Forests.Kinds.{is_character_data};
 ghost use Rattle.dom_model.specs.Forests.Nodes.{kind_passes};
 ghost use Rattle.dom_edit.specs.Whole.{IsWhole};
 
-use crate::facts::{Fact, NEW, expect_units, held};
-use crate::scenes::{Ask, Call, Change, New, Row, When, played};
+use crate::facts::{Fact, NEW, held};
+use crate::scenes::{Call, Change, New, Row, When, played};
 use crate::small_world::{SMALL_WORLD, of_kind};
-use dom_data::{
-    normalize, replace_data, set_data, set_text_content, split, substring, text_content,
-};
+use dom_data::{normalize, replace_data, set_data, set_text_content, split};
 use dom_edit::{Refusal, World};
-use dom_kinds::{DomError, Kind};
+use dom_kinds::Kind;
 use dom_tree::NodeId;
 use dom_units::Units;
 use std::alloc::Global;
 use std::process::Abort;
 use std::test::Fail;
-
-/// Asserts the text content of a node.
-pub(crate) fn expect_text_content(
-    rt: &impl Abort,
-    world: &World,
-    alloc: Global,
-    node: u32,
-    text: &str,
-) -> Result<(), Refusal>
-    requires { IsWhole world.now }
-{
-    let node = held(rt, world, node);
-    match text_content(world, alloc, node)? {
-        Some(found) => expect_units(rt, found.units(), text),
-        None => assert!(rt; false, "no text"),
-    }
-    Ok(())
-}
-
-#[test]
-fn the_text_of_an_element(rt: HostRuntime) -> Result<(), Fail> {
-    played(&rt, rt.alloc(), SMALL_WORLD, THE_TEXT_OF_AN_ELEMENT)
-}
-
-const THE_TEXT_OF_AN_ELEMENT: &[Row] = &[Row::Do(Call::Ask(Ask::TextContent(1, "abcdef")))];
 
 /// Sets the text content of a node.
 pub(crate) fn fill(
@@ -87,11 +60,6 @@ const AN_ELEMENT_IS_FILLED: &[Row] = &[
     ),
 ];
 
-#[test]
-fn an_element_is_filled(rt: HostRuntime) -> Result<(), Fail> {
-    played(&rt, rt.alloc(), SMALL_WORLD, AN_ELEMENT_IS_FILLED)
-}
-
 const FILL_A_TEXT: Call = Call::Change(2, Change::SetTextContent("mnop"));
 
 // Replaces all data of Text 2.
@@ -104,11 +72,6 @@ const A_TEXT_IS_FILLED: &[Row] = &[
         &[Fact::Data(2, "mnop"), Fact::Children(1, &[2, 3, 5])],
     ),
 ];
-
-#[test]
-fn a_text_is_filled(rt: HostRuntime) -> Result<(), Fail> {
-    played(&rt, rt.alloc(), SMALL_WORLD, A_TEXT_IS_FILLED)
-}
 
 // Returns the node with a number, and asserts that it exists and has character data.
 fn with_data(rt: &impl Abort, world: &World, number: u32) -> NodeId
@@ -146,11 +109,6 @@ const UNITS_ARE_REPLACED: &[Row] = &[
     Row::Then(When::Always, &[Fact::Data(2, "amno")]),
 ];
 
-#[test]
-fn units_are_replaced(rt: HostRuntime) -> Result<(), Fail> {
-    played(&rt, rt.alloc(), SMALL_WORLD, UNITS_ARE_REPLACED)
-}
-
 /// Sets all data of a node.
 pub(crate) fn set_units(
     rt: &impl Abort,
@@ -176,42 +134,6 @@ const ALL_DATA_IS_SET: &[Row] = &[
     Row::Again(SET_UNITS),
     Row::Then(When::Always, &[Fact::Data(11, "mno")]),
 ];
-
-#[test]
-fn all_data_is_set(rt: HostRuntime) -> Result<(), Fail> {
-    played(&rt, rt.alloc(), SMALL_WORLD, ALL_DATA_IS_SET)
-}
-
-/// Asserts `count` units of a node's data from an offset on.
-pub(crate) fn expect_substring(
-    rt: &impl Abort,
-    world: &World,
-    alloc: Global,
-    node: u32,
-    place: (usize, usize),
-    text: &str,
-) -> Result<(), Refusal>
-    requires { IsWhole world.now }
-{
-    let node = with_data(rt, world, node);
-    let part = substring(world, alloc, node, place.0, place.1)?;
-    expect_units(rt, part.units(), text);
-    Ok(())
-}
-
-// Reads units of Text 5 up to its end, and fails past the end.
-const A_PART_OF_THE_DATA: &[Row] = &[
-    Row::Do(Call::Ask(Ask::Substring(5, 1, 9, "f"))),
-    Row::Fails(
-        Call::Ask(Ask::Substring(5, 3, 0, "")),
-        DomError::IndexSizeError,
-    ),
-];
-
-#[test]
-fn a_part_of_the_data(rt: HostRuntime) -> Result<(), Fail> {
-    played(&rt, rt.alloc(), SMALL_WORLD, A_PART_OF_THE_DATA)
-}
 
 /// Splits a Text at an offset.
 pub(crate) fn split_at(
@@ -252,11 +174,6 @@ const A_TEXT_IS_SPLIT: &[Row] = &[
     ),
 ];
 
-#[test]
-fn a_text_is_split(rt: HostRuntime) -> Result<(), Fail> {
-    played(&rt, rt.alloc(), SMALL_WORLD, A_TEXT_IS_SPLIT)
-}
-
 /// Normalizes the Texts below a node.
 pub(crate) fn join(
     rt: &impl Abort,
@@ -287,6 +204,14 @@ const TEXTS_ARE_JOINED: &[Row] = &[
 ];
 
 #[test]
-fn texts_are_joined(rt: HostRuntime) -> Result<(), Fail> {
-    played(&rt, rt.alloc(), SMALL_WORLD, TEXTS_ARE_JOINED)
+fn scenes(rt: HostRuntime) -> Result<(), Fail> {
+    let scenes = [
+        ("an element is filled", AN_ELEMENT_IS_FILLED),
+        ("a text is filled", A_TEXT_IS_FILLED),
+        ("units are replaced", UNITS_ARE_REPLACED),
+        ("all data is set", ALL_DATA_IS_SET),
+        ("a text is split", A_TEXT_IS_SPLIT),
+        ("texts are joined", TEXTS_ARE_JOINED),
+    ];
+    played(&rt, rt.alloc(), SMALL_WORLD, &scenes)
 }

@@ -8,7 +8,7 @@ use crate::facts::{Fact, held};
 use crate::scenes::{Call, New, Row, When, played};
 use crate::small_world::{SMALL_WORLD, of_kind};
 use dom_edit::{Refusal, World};
-use dom_kinds::{DomError, Kind, may_be_parent};
+use dom_kinds::{Kind, may_be_parent};
 use dom_tree::NodeId;
 use std::alloc::Global;
 use std::process::Abort;
@@ -44,11 +44,6 @@ const A_NODE_IS_APPENDED: &[Row] = &[
     ),
 ];
 
-#[test]
-fn a_node_is_appended(rt: HostRuntime) -> Result<(), Fail> {
-    played(&rt, rt.alloc(), SMALL_WORLD, A_NODE_IS_APPENDED)
-}
-
 const MAKE_A_COMMENT: Call = Call::New(New::Make(Kind::Comment, "mn"));
 
 // Makes Comment 13 as a root of document 0. If memory is refused, nothing has changed.
@@ -66,11 +61,6 @@ const A_NODE_IS_MADE: &[Row] = &[
         ],
     ),
 ];
-
-#[test]
-fn a_node_is_made(rt: HostRuntime) -> Result<(), Fail> {
-    played(&rt, rt.alloc(), SMALL_WORLD, A_NODE_IS_MADE)
-}
 
 /// Inserts a node before a child of its new parent.
 pub(crate) fn insert(
@@ -104,11 +94,6 @@ const A_FRAGMENT_IS_INSERTED: &[Row] = &[
         ],
     ),
 ];
-
-#[test]
-fn a_fragment_is_inserted(rt: HostRuntime) -> Result<(), Fail> {
-    played(&rt, rt.alloc(), SMALL_WORLD, A_FRAGMENT_IS_INSERTED)
-}
 
 /// Replaces a child by a node.
 pub(crate) fn replace(
@@ -144,11 +129,6 @@ const A_CHILD_IS_REPLACED: &[Row] = &[
     ),
 ];
 
-#[test]
-fn a_child_is_replaced(rt: HostRuntime) -> Result<(), Fail> {
-    played(&rt, rt.alloc(), SMALL_WORLD, A_CHILD_IS_REPLACED)
-}
-
 /// Removes all children of a node.
 pub(crate) fn clear(
     rt: &impl Abort,
@@ -173,11 +153,6 @@ const ALL_CHILDREN_LEAVE: &[Row] = &[
         &[Fact::Children(6, &[]), Fact::Roots(&[7, 8, 9])],
     ),
 ];
-
-#[test]
-fn all_children_leave(rt: HostRuntime) -> Result<(), Fail> {
-    played(&rt, rt.alloc(), SMALL_WORLD, ALL_CHILDREN_LEAVE)
-}
 
 /// Removes a child from the given parent.
 pub(crate) fn remove_child(
@@ -211,13 +186,7 @@ const A_CHILD_LEAVES: &[Row] = &[
             Fact::Roots(&[3]),
         ],
     ),
-    Row::Fails(Call::RemoveChild(1, 3), DomError::NotFoundError),
 ];
-
-#[test]
-fn a_child_leaves(rt: HostRuntime) -> Result<(), Fail> {
-    played(&rt, rt.alloc(), SMALL_WORLD, A_CHILD_LEAVES)
-}
 
 /// Removes a node from its parent.
 pub(crate) fn remove(rt: &impl Abort, world: &mut World, node: u32) -> Result<(), Refusal>
@@ -247,11 +216,6 @@ const A_NODE_LEAVES: &[Row] = &[
     Row::Do(Call::Append(1, 8)),
     Row::Then(When::Always, &[Fact::Children(1, &[2, 3, 5, 8])]),
 ];
-
-#[test]
-fn a_node_leaves(rt: HostRuntime) -> Result<(), Fail> {
-    played(&rt, rt.alloc(), SMALL_WORLD, A_NODE_LEAVES)
-}
 
 // Returns the node with a number, if one is given, and asserts that it exists.
 fn held_if_any(rt: &impl Abort, world: &World, number: Option<u32>) -> Option<NodeId>
@@ -298,11 +262,6 @@ const ALL_CHILDREN_ARE_REPLACED: &[Row] = &[
     ),
 ];
 
-#[test]
-fn all_children_are_replaced(rt: HostRuntime) -> Result<(), Fail> {
-    played(&rt, rt.alloc(), SMALL_WORLD, ALL_CHILDREN_ARE_REPLACED)
-}
-
 /// Adopts a node into a document.
 pub(crate) fn adopt(
     rt: &impl Abort,
@@ -342,14 +301,17 @@ const A_TREE_IS_ADOPTED: &[Row] = &[
 ];
 
 #[test]
-fn a_tree_is_adopted(rt: HostRuntime) -> Result<(), Fail> {
-    played(&rt, rt.alloc(), SMALL_WORLD, A_TREE_IS_ADOPTED)
-}
-
-/// Asserts whether a tree can be discarded.
-pub(crate) fn expect_discardable(rt: &impl Abort, world: &World, node: u32, free: bool)
-    requires { IsWhole world.now }
-{
-    let node = held(rt, world, node);
-    assert_eq!(rt; world.can_discard(node), free);
+fn scenes(rt: HostRuntime) -> Result<(), Fail> {
+    let scenes = [
+        ("a node is appended", A_NODE_IS_APPENDED),
+        ("a node is made", A_NODE_IS_MADE),
+        ("a fragment is inserted", A_FRAGMENT_IS_INSERTED),
+        ("a child is replaced", A_CHILD_IS_REPLACED),
+        ("all children leave", ALL_CHILDREN_LEAVE),
+        ("a child leaves", A_CHILD_LEAVES),
+        ("a node leaves", A_NODE_LEAVES),
+        ("all children are replaced", ALL_CHILDREN_ARE_REPLACED),
+        ("a tree is adopted", A_TREE_IS_ADOPTED),
+    ];
+    played(&rt, rt.alloc(), SMALL_WORLD, &scenes)
 }

@@ -1,4 +1,4 @@
-//! Live ranges that are made at checked points, and a single one with known ends, which changes of the tree adjust.
+//! A live range that is made at checked points, and that changes of the tree adjust without taking memory.
 
 ghost use Rattle.std.specs.Prelude.{◌≡◌, [], ◌∷◌, ◌++◌, Some, true, false, IfOk};
 ghost use Rattle.std.specs.declared.cmp.Ordering.TheVariants.{Greater};
@@ -51,7 +51,7 @@ fn stands(tree: &Tree<Units>, p: Point) -> bool
 }
 
 // Makes a live range, covering the nodes if necessary, and returns whether its number is the expected one.
-pub(crate) fn placed(
+fn placed(
     ranges: &mut Ranges,
     tree: &Tree<Units>,
     due: u32,
@@ -102,8 +102,8 @@ fn with_texts(rt: &impl Abort, alloc: Global) -> Result<Tree<Units>, AllocError>
     Ok(tree)
 }
 
-// Returns ranges with a single one, numbered 0, and room for ends in a thousand nodes.
-fn alone(
+// Returns ranges with a single one, numbered 0, and room for ends in a thousand nodes. Marks where code that takes no memory begins.
+fn ready(
     rt: &impl Abort,
     alloc: Global,
     tree: &Tree<Units>,
@@ -117,21 +117,6 @@ fn alone(
     ranges.cover(1000)?;
     let is_placed = placed(&mut ranges, tree, 0, start, end)?;
     assert!(rt; is_placed);
-    Ok(ranges)
-}
-
-// Returns ranges with a single one, and marks where code that takes no memory begins.
-fn ready(
-    rt: &impl Abort,
-    alloc: Global,
-    tree: &Tree<Units>,
-    start: Point,
-    end: Point,
-) -> Result<Ranges, AllocError>
-    ensures { IfOk result (λ ranges. ranges.ranges
-        ≡ Some (record { start = start; end = end }) ∷ []) }
-{
-    let ranges = alone(rt, alloc, tree, start, end)?;
     let _ = begins(alloc)?;
     Ok(ranges)
 }
@@ -181,5 +166,31 @@ fn texts_merged_without_a_growth(rt: HostRuntime) -> Result<(), Fail> {
     assert!(rt; ranges.is_covered(t));
     ranges.merged(u, t, 10, root, 2);
     has_come(&rt, rt.alloc(), &ranges, (3, 10), (3, 15));
+    Ok(())
+}
+
+// Adjusts the ranges for the removal of a node with a covered parent.
+fn leave(ranges: &mut Ranges, tree: &Tree<Units>, node: NodeId) -> bool {
+    if !tree.holds(node) {
+        return false;
+    }
+    match tree.parent(node) {
+        Some(parent) => {
+            if !ranges.is_covered(parent) {
+                return false;
+            }
+            ranges.removing(tree, node);
+            true
+        }
+        None => false,
+    }
+}
+
+#[test]
+fn a_node_removed_without_a_growth(rt: HostRuntime) -> Result<(), Fail> {
+    let tree = with_texts(&rt, rt.alloc())?;
+    let mut ranges = ready(&rt, rt.alloc(), &tree, at((2, 0)), at((0, 2)))?;
+    assert!(rt; leave(&mut ranges, &tree, NodeId::new(1)));
+    has_come(&rt, rt.alloc(), &ranges, (0, 0), (0, 1));
     Ok(())
 }

@@ -52,12 +52,6 @@ const CHAIN_PRINTED: &[Part] = &[
     },
 ];
 
-#[test]
-fn a_chain_of_elements(rt: HostRuntime) -> Result<(), Fail> {
-    are_answered(&rt, rt.alloc(), CHAIN, CHAIN_PRINTED, 20_001)?;
-    Ok(())
-}
-
 // A chain of elements with a Text in the last one, which is copied, and queries of both.
 const COPY: &[Part] = &[
     Part {
@@ -110,12 +104,6 @@ const COPIED: &[Part] = &[
         )],
     },
 ];
-
-#[test]
-fn a_chain_copied_and_compared(rt: HostRuntime) -> Result<(), Fail> {
-    are_answered(&rt, rt.alloc(), COPY, COPIED, 20_007)?;
-    Ok(())
-}
 
 // A Text in a chain of elements. The contents from inside that Text to behind the chain are cloned and extracted.
 const DRAW: &[Part] = &[
@@ -183,12 +171,6 @@ const DRAWN: &[Part] = &[
     },
 ];
 
-#[test]
-fn a_chain_cloned_and_extracted(rt: HostRuntime) -> Result<(), Fail> {
-    are_answered(&rt, rt.alloc(), DRAW, DRAWN, 2_015)?;
-    Ok(())
-}
-
 // Paragraphs that a range extracts, that are inserted again, and deleted.
 const PARAGRAPHS: &[Part] = &[
     Part {
@@ -255,7 +237,19 @@ const PARAGRAPHS_MOVED: &[Part] = &[
 ];
 
 #[test]
-fn paragraphs_taken_out_and_put_back(rt: HostRuntime) -> Result<(), Fail> {
-    are_answered(&rt, rt.alloc(), PARAGRAPHS, PARAGRAPHS_MOVED, 40_013)?;
+fn large_trees(rt: HostRuntime) -> Result<(), Fail> {
+    for (name, given, due, lines) in [
+        ("a chain of elements", CHAIN, CHAIN_PRINTED, 20_001),
+        ("a chain copied and compared", COPY, COPIED, 20_007),
+        ("a chain cloned and extracted", DRAW, DRAWN, 2_015),
+        (
+            "paragraphs taken out and put back",
+            PARAGRAPHS,
+            PARAGRAPHS_MOVED,
+            40_013,
+        ),
+    ] {
+        are_answered(&rt, rt.alloc(), name, given, due, lines)?;
+    }
     Ok(())
 }

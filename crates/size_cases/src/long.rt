@@ -48,18 +48,6 @@ const INSERTED_AT_THE_END: &[Part] = &[
     },
 ];
 
-#[test]
-fn units_at_the_end_of_a_long_text(rt: HostRuntime) -> Result<(), Fail> {
-    are_answered(
-        &rt,
-        rt.alloc(),
-        UNITS_AT_THE_END,
-        INSERTED_AT_THE_END,
-        10_004,
-    )?;
-    Ok(())
-}
-
 // A long Text, and units that are inserted one by one at its start.
 const UNITS_AT_THE_START: &[Part] = &[
     Part {
@@ -104,18 +92,6 @@ const INSERTED_AT_THE_START: &[Part] = &[
         pieces: &[Piece::Text("{\"ok\":1010000}\n{\"ok\":\"bb\"}\n{\"ok\":\"aa\"}\n")],
     },
 ];
-
-#[test]
-fn units_at_the_start_of_a_long_text(rt: HostRuntime) -> Result<(), Fail> {
-    are_answered(
-        &rt,
-        rt.alloc(),
-        UNITS_AT_THE_START,
-        INSERTED_AT_THE_START,
-        10_004,
-    )?;
-    Ok(())
-}
 
 // Many attributes of one element. The first one is removed.
 const ATTRIBUTES: &[Part] = &[
@@ -164,12 +140,6 @@ const ATTRIBUTES_LISTED: &[Part] = &[
     },
 ];
 
-#[test]
-fn an_element_with_many_attributes(rt: HostRuntime) -> Result<(), Fail> {
-    are_answered(&rt, rt.alloc(), ATTRIBUTES, ATTRIBUTES_LISTED, 10_005)?;
-    Ok(())
-}
-
 // A line of 1,048,576 bytes, one of a byte more, and a short one.
 const LONG_LINES: &[Part] = &[
     Part {
@@ -200,7 +170,34 @@ const LONG_LINES_ANSWERED: &[Part] = &[Part {
 }];
 
 #[test]
-fn lines_of_a_million_bytes(rt: HostRuntime) -> Result<(), Fail> {
-    are_answered(&rt, rt.alloc(), LONG_LINES, LONG_LINES_ANSWERED, 3)?;
+fn long_texts_and_lines(rt: HostRuntime) -> Result<(), Fail> {
+    for (name, given, due, lines) in [
+        (
+            "units at the end of a long Text",
+            UNITS_AT_THE_END,
+            INSERTED_AT_THE_END,
+            10_004,
+        ),
+        (
+            "units at the start of a long Text",
+            UNITS_AT_THE_START,
+            INSERTED_AT_THE_START,
+            10_004,
+        ),
+        (
+            "an element with many attributes",
+            ATTRIBUTES,
+            ATTRIBUTES_LISTED,
+            10_005,
+        ),
+        (
+            "lines of a million bytes",
+            LONG_LINES,
+            LONG_LINES_ANSWERED,
+            3,
+        ),
+    ] {
+        are_answered(&rt, rt.alloc(), name, given, due, lines)?;
+    }
     Ok(())
 }

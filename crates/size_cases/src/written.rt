@@ -63,10 +63,11 @@ fn written(alloc: Global, parts: &[Part]) -> Result<String, AllocError> {
     Ok(text)
 }
 
-/// Asserts the output for some input lines.
+/// Asserts the output for some input lines, and tells the name of the case otherwise.
 pub(crate) fn are_answered(
     rt: &impl Abort,
     alloc: Global,
+    name: &str,
     given: &[Part],
     due: &[Part],
     lines: u64,
@@ -74,8 +75,8 @@ pub(crate) fn are_answered(
     let input = written(alloc, given)?;
     let output = written(alloc, due)?;
     let served = serve_all(alloc, USUAL, in_pieces(input.as_bytes(), 65536));
-    assert_eq!(rt; served.ended, Ok(Summary { lines }));
-    assert!(rt; served.is_clean);
-    assert!(rt; served.written.as_slice() == output.as_bytes());
+    assert_eq!(rt; served.ended, Ok(Summary { lines }), "{name}");
+    assert!(rt; served.is_clean, "{name}");
+    assert!(rt; served.written.as_slice() == output.as_bytes(), "{name}");
     Ok(())
 }

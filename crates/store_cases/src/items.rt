@@ -1,5 +1,4 @@
-//! Items by number that are added and released: each has a slot, and the last item moves into the slot of a released one. Each test is a list of
-//! rows.
+//! Items by number that are added, read and released within reserved room.
 use super::player::expect;
 use dom_slots::NumberedItems;
 use growth_marks::{Act, begins, ends};
@@ -14,14 +13,8 @@ enum Step {
     Make,
     // Releases the number of the turn, and expects its slot.
     Release(usize),
-    // Expects how many numbers were given, and how many items there are.
-    Made(u64, usize),
-    // Expects the item in the slot of the turn.
-    Item(u32),
     // Expects the item with the number of the turn.
-    Get(Option<u32>),
-    // Replaces the item in the slot of the turn.
-    Put(u32),
+    Get(u32),
     // Marks steps that take no memory.
     Begins,
     Ends,
@@ -61,14 +54,6 @@ fn release(items: &mut NumberedItems<u32>, number: u32, due: usize) -> bool {
     slot == due && item == number && !items.holds(number)
 }
 
-fn put(items: &mut NumberedItems<u32>, slot: usize, item: u32) -> bool {
-    if slot >= items.count() {
-        return false;
-    }
-    *items.in_slot_mut(slot) = item;
-    true
-}
-
 impl Act for Step {
     type Scene = NumberedItems<u32>;
 
@@ -86,58 +71,26 @@ impl Act for Step {
             Step::Room(additional) => reserve(items, *additional),
             Step::Make => make(items, turn),
             Step::Release(slot) => Ok(release(items, turn, *slot)),
-            Step::Made(made, count) => Ok(items.made() == *made && items.count() == *count),
-            Step::Item(item) => Ok(items.items().get(turn as usize) == Some(item)),
-            Step::Get(item) => Ok(items.get(turn).copied() == *item),
-            Step::Put(item) => Ok(put(items, turn as usize, *item)),
+            Step::Get(item) => Ok(items.get(turn) == Some(item)),
             Step::Begins => begins(alloc),
             Step::Ends => Ok(ends(alloc)),
         }
     }
 }
 
-// The last item moves into the slot of the released one, and no number is reused.
-const THE_LAST_COMES: &[Row] = &[
-    (0, 1, Step::Made(0, 0)),
-    (0, 1, Step::Get(None)),
-    (0, 4, Step::Make),
-    (0, 1, Step::Made(4, 4)),
-    (1, 2, Step::Release(1)),
-    (0, 1, Step::Item(0)),
-    (1, 2, Step::Item(3)),
-    (2, 3, Step::Item(2)),
-    (1, 2, Step::Get(None)),
-    (3, 4, Step::Get(Some(3))),
-    (1, 2, Step::Put(33)),
-    (3, 4, Step::Get(Some(33))),
-    (1, 2, Step::Put(3)),
-    (4, 5, Step::Make),
-    (0, 1, Step::Made(5, 4)),
-    (3, 4, Step::Item(4)),
-    (0, 1, Step::Release(0)),
-    (0, 1, Step::Item(4)),
-    (5, 6, Step::Get(None)),
-];
-
-#[test]
-fn the_last_comes(rt: HostRuntime) -> Result<(), Fail> {
-    expect(&rt, rt.alloc(), THE_LAST_COMES)
-}
-
 // Adds, reads and releases items within reserved room.
-const ITEMS_WITHOUT_A_GROWTH: &[Row] = &[
+const WITHOUT_A_GROWTH: &[Row] = &[
     (0, 1500, Step::Make),
     (0, 1, Step::Room(1)),
     (0, 1, Step::Begins),
     (1500, 1501, Step::Make),
-    (1500, 1501, Step::Get(Some(1500))),
+    (1500, 1501, Step::Get(1500)),
     (0, 1, Step::Release(0)),
-    (0, 1, Step::Item(1500)),
+    (1500, 1501, Step::Get(1500)),
     (0, 1, Step::Ends),
-    (0, 1, Step::Made(1501, 1500)),
 ];
 
 #[test]
 fn items_without_a_growth(rt: HostRuntime) -> Result<(), Fail> {
-    expect(&rt, rt.alloc(), ITEMS_WITHOUT_A_GROWTH)
+    expect(&rt, rt.alloc(), WITHOUT_A_GROWTH)
 }

@@ -1,5 +1,5 @@
-//! The tests of the crates below the tree, by their public calls: texts, kinds, attributes, linked slots, pages and numbers. They are in a crate of
-//! their own, because a crate with tests is proved twice.
+//! The tests of the crates below the tree, by their public calls: what memory texts, kinds, attributes, linked slots, pages and numbers take. They are in a
+//! crate of their own, because a crate with tests is proved twice.
 #![tactic(auto)]
 
 #[cfg(test)]

@@ -1,11 +1,5 @@
-//! The tests of lines, replies, whole sessions, and streams.
+//! The tests of streams over those of std: what reaches them, and the errors that they leave.
 #![tactic(auto)]
 
-#[cfg(test)]
-mod lines;
-#[cfg(test)]
-mod replies;
-#[cfg(test)]
-mod sessions;
 #[cfg(test)]
 mod streams;

@@ -2,7 +2,6 @@
 
 use dom_serve::{Failed, FromRead, LastError, Sink, Source, ToWrite};
 use std::io::{self, Read, Write};
-use std::test::Fail;
 
 /// A writer that takes no bytes.
 #[derive(Drop)]
@@ -52,29 +51,6 @@ impl Read for FailsOnce {
         }
         Ok(0)
     }
-}
-
-#[test]
-fn reads_the_bytes_of_a_slice(rt: HostRuntime) {
-    let mut reader = FromRead::new(&b"abc"[..]);
-    let mut buffer = [0u8; 2];
-    assert_eq!(rt; reader.read(&mut buffer), Ok(2));
-    assert_eq!(rt; buffer, [b'a', b'b']);
-    assert_eq!(rt; reader.read(&mut buffer), Ok(1));
-    assert_eq!(rt; buffer[0], b'c');
-    assert_eq!(rt; reader.read(&mut buffer), Ok(0));
-}
-
-#[test]
-fn writes_the_bytes_to_a_vector(rt: HostRuntime) -> Result<(), Fail> {
-    let mut writer = ToWrite::new(Vec::new(rt.alloc()));
-    assert_eq!(rt; writer.write(b"ab"), Ok(2));
-    assert_eq!(rt; writer.write(b""), Ok(0));
-    assert_eq!(rt; writer.write(b"c"), Ok(1));
-    assert_eq!(rt; writer.flush(), Ok(()));
-    let bytes = writer.into_inner();
-    assert_eq!(rt; bytes.as_slice(), b"abc".as_slice());
-    Ok(())
 }
 
 #[test]

@@ -1,16 +1,10 @@
-//! The tests of trees, boundary points and traversal, by their public calls.
+//! The tests of trees and traversal, by their public calls: drops, cached indices, and what takes no memory.
 #![tactic(auto)]
 
 #[cfg(test)]
 mod counted;
 #[cfg(test)]
-mod filters;
-#[cfg(test)]
-mod iterators;
-#[cfg(test)]
 mod player;
-#[cfg(test)]
-mod points;
 #[cfg(test)]
 mod tree;
 #[cfg(test)]

@@ -1,23 +1,21 @@
-//! Trees that are built, queried and freed, step by step: indices that are cached or found, and references to nodes.
+//! Trees that are built and changed, step by step: indices that are cached, known without a walk, or in blocks, and what takes no memory.
 
 ghost use Rattle.dom_model.specs.Forests.Forest.{HasNode};
 
 use super::player::expect;
 use dom_kinds::{Kind, Label};
-use dom_point::{Point, common, order};
-use dom_tree::{Children, NodeId, Tree};
+use dom_tree::{NodeId, Tree};
 use growth_marks::{Act, begins, ends};
 use std::alloc::{AllocError, Global};
-use std::cmp::Ordering;
 use std::test::Fail;
 use tree_steps::{made, put};
 
 // A call at a turn with the node of that number, or an expected state. An element is its own node document, or has another one.
-pub(crate) enum Step {
+enum Step {
     // Makes a document.
     Document,
-    // Makes an element with a name.
-    Element(Option<u32>, &'static str),
+    // Makes an element.
+    Element(Option<u32>),
     // Makes an element, and inserts it under a parent: as the last or the first child.
     Child(Option<u32>, u32),
     FirstChild(Option<u32>, u32),
@@ -37,39 +35,23 @@ pub(crate) enum Step {
     Found(usize),
     // Expects its index, its number less this one, without a walk.
     Behind(usize),
-    // Expects its child at an index.
-    At(usize, u32),
     // Expects whether it comes before this sibling.
     ComesBefore(u32, bool),
-    // Expects whether it exists.
-    Held(bool),
-    // Expects how many nodes were made, and how many are live.
-    Made(u64, u64),
     // Expects its cached index.
     Kept(Option<usize>),
-    // Expects its index, and the same as the cached one, if any.
-    MovedOn(usize),
+    // Expects its index.
     Index(usize),
     // Expects the index that a walk of this many steps finds.
     Within(usize, Option<usize>),
     // Expects how many of its children are of a kind, if they are counted.
     OfKind(Kind, Option<u32>),
-    // Expects whether a node outside refers to it or to a descendant.
-    Refers(bool),
-    // Expects its children: all, or from one of them on.
-    Children(&'static [u32]),
-    ChildrenFrom(Option<u32>, &'static [u32]),
-    // Expects the order of two points, each a node and an offset.
-    Order((u32, usize), (u32, usize), Ordering),
-    // Expects the third node as the common ancestor of the first two.
-    Common(u32, u32, u32),
     // Marks steps that take no memory.
     Begins,
     Ends,
 }
 
 // The first turn, the turn after the last, and the step for each turn.
-pub(crate) type Row = (u32, u32, Step);
+type Row = (u32, u32, Step);
 
 fn node_if(number: Option<u32>) -> Option<NodeId> {
     match number {
@@ -80,15 +62,12 @@ fn node_if(number: Option<u32>) -> Option<NodeId> {
 
 // Makes a node, and returns whether its number is the expected one.
 fn make(
-    alloc: Global,
     tree: &mut Tree<u32>,
     due: u32,
     kind: Kind,
-    name: &str,
     document: Option<u32>,
 ) -> Result<bool, AllocError> {
-    let label = Label::named(alloc, kind, name)?;
-    let id = made(tree, label, 7, node_if(document))?;
+    let id = made(tree, Label::nameless(kind), 7, node_if(document))?;
     Ok(id.number() == due)
 }
 
@@ -148,60 +127,6 @@ fn comes_before(tree: &mut Tree<u32>, a: NodeId, b: NodeId, due: bool) -> bool {
     tree.found_comes_before(a, b) == due
 }
 
-fn are(children: Children<'_, u32>, due: &[u32]) -> bool {
-    let mut are_due = true;
-    let mut index = 0usize;
-    for child in children {
-        are_due = are_due && due.get(index) == Some(&child.number());
-        index = index.saturating_add(1);
-    }
-    are_due && index == due.len()
-}
-
-fn are_from(tree: &Tree<u32>, parent: NodeId, child: Option<u32>, due: &[u32]) -> bool
-    requires { HasNode tree.now.forest parent }
-{
-    match child {
-        Some(number) => {
-            let child = NodeId::new(number);
-            tree.holds(child)
-                && tree.parent(child) == Some(parent)
-                && are(tree.children_from(parent, Some(child)), due)
-        }
-        None => are(tree.children_from(parent, None), due),
-    }
-}
-
-fn at(point: (u32, usize)) -> Point {
-    Point {
-        node: NodeId::new(point.0),
-        offset: point.1,
-    }
-}
-
-// Returns whether two points of one tree have the expected order, in both directions.
-fn stand(tree: &Tree<u32>, a: Point, b: Point, due: Ordering) -> bool {
-    if !tree.holds(a.node) || !tree.holds(b.node) || tree.root(a.node) != tree.root(b.node) {
-        return false;
-    }
-    order(tree, a, b) == due && order(tree, b, a) == due.reverse()
-}
-
-fn meet(tree: &Tree<u32>, a: NodeId, b: NodeId, due: NodeId) -> bool {
-    if !tree.holds(a) || !tree.holds(b) || tree.root(a) != tree.root(b) {
-        return false;
-    }
-    common(tree, a, b) == due
-}
-
-// Returns whether a node's index is the expected one, and so is the cached one, if any.
-fn has_moved_on(tree: &Tree<u32>, id: NodeId, due: usize) -> bool
-    requires { HasNode tree.now.forest id }
-{
-    let known = tree.kept_index(id);
-    (known.is_none() || known == Some(due)) && tree.index(id) == due
-}
-
 // Returns whether a node's index is its number less `less`, without a walk.
 fn is_behind(tree: &Tree<u32>, id: NodeId, less: usize) -> bool
     requires { HasNode tree.now.forest id }
@@ -216,36 +141,16 @@ fn is_due_of(tree: &Tree<u32>, id: NodeId, step: &Step) -> bool
 {
     match step {
         Step::Kept(index) => tree.kept_index(id) == *index,
-        Step::MovedOn(index) => has_moved_on(tree, id, *index),
         Step::Index(index) => tree.index(id) == *index,
         Step::Behind(less) => is_behind(tree, id, *less),
-        Step::At(index, child) => tree.child_at(id, *index) == Some(NodeId::new(*child)),
         Step::Within(steps, index) => tree.index_within(id, *steps) == *index,
         Step::OfKind(kind, count) => tree.children_of_kind(id, *kind) == *count,
-        Step::Refers(refers) => tree.refers(id) == *refers,
-        Step::Children(due) => are(tree.children(id), due),
-        Step::ChildrenFrom(child, due) => are_from(tree, id, *child, due),
         _ => false,
-    }
-}
-
-// Returns whether the expected state is there.
-fn is_due(tree: &Tree<u32>, turn: u32, step: &Step) -> bool {
-    let id = NodeId::new(turn);
-    match step {
-        Step::Held(is_held) => tree.holds(id) == *is_held,
-        Step::Made(made, live) => tree.made() == *made && tree.live() == *live,
-        Step::Order(a, b, due) => stand(tree, at(*a), at(*b), *due),
-        Step::Common(a, b, due) => {
-            meet(tree, NodeId::new(*a), NodeId::new(*b), NodeId::new(*due))
-        }
-        _ => tree.holds(id) && is_due_of(tree, id, step),
     }
 }
 
 // Makes an element, and inserts it under a parent: as the last or the first child.
 fn make_child(
-    alloc: Global,
     tree: &mut Tree<u32>,
     due: u32,
     document: Option<u32>,
@@ -254,42 +159,13 @@ fn make_child(
 ) -> Result<bool, AllocError> {
     let parent = NodeId::new(parent);
     let child = NodeId::new(due);
-    if !make(alloc, tree, due, Kind::Element, "", document)? {
+    if !make(tree, due, Kind::Element, document)? {
         return Ok(false);
     }
     if is_last {
         return Ok(put(tree, parent, child, None));
     }
     Ok(put_first(tree, parent, child))
-}
-
-// Runs a step with a tree at a turn, and returns whether the outcome is the expected one.
-pub(crate) fn grow(
-    alloc: Global,
-    tree: &mut Tree<u32>,
-    turn: u32,
-    step: &Step,
-) -> Result<bool, AllocError> {
-    let id = NodeId::new(turn);
-    match step {
-        Step::Document => make(alloc, tree, turn, Kind::Document, "", None),
-        Step::Element(document, name) => make(alloc, tree, turn, Kind::Element, name, *document),
-        Step::Child(document, parent) => make_child(alloc, tree, turn, *document, *parent, true),
-        Step::FirstChild(document, parent) => {
-            make_child(alloc, tree, turn, *document, *parent, false)
-        }
-        Step::Put(parent, before) => Ok(put(tree, NodeId::new(*parent), id, node_if(*before))),
-        Step::Cut => Ok(cut(tree, id)),
-        Step::Free => Ok(free(tree, id)),
-        Step::NumberChildren => Ok(number_children(tree, id)),
-        Step::MakeRoom => reserve_blocks(tree, id),
-        Step::Found(index) => Ok(found(tree, id, *index)),
-        Step::PutLeaf(parent, due) => Ok(tree.put_leaf(NodeId::new(*parent), id) == *due),
-        Step::ComesBefore(other, due) => Ok(comes_before(tree, id, NodeId::new(*other), *due)),
-        Step::Begins => begins(alloc),
-        Step::Ends => Ok(ends(alloc)),
-        _ => Ok(is_due(tree, turn, step)),
-    }
 }
 
 impl Act for Step {
@@ -300,19 +176,35 @@ impl Act for Step {
     }
 
     fn act(&self, alloc: Global, tree: &mut Tree<u32>, turn: u32) -> Result<bool, AllocError> {
-        grow(alloc, tree, turn, self)
+        let id = NodeId::new(turn);
+        match self {
+            Step::Document => make(tree, turn, Kind::Document, None),
+            Step::Element(document) => make(tree, turn, Kind::Element, *document),
+            Step::Child(document, parent) => make_child(tree, turn, *document, *parent, true),
+            Step::FirstChild(document, parent) => make_child(tree, turn, *document, *parent, false),
+            Step::Put(parent, before) => Ok(put(tree, NodeId::new(*parent), id, node_if(*before))),
+            Step::Cut => Ok(cut(tree, id)),
+            Step::Free => Ok(free(tree, id)),
+            Step::NumberChildren => Ok(number_children(tree, id)),
+            Step::MakeRoom => reserve_blocks(tree, id),
+            Step::Found(index) => Ok(found(tree, id, *index)),
+            Step::PutLeaf(parent, due) => Ok(tree.put_leaf(NodeId::new(*parent), id) == *due),
+            Step::ComesBefore(other, due) => Ok(comes_before(tree, id, NodeId::new(*other), *due)),
+            Step::Begins => begins(alloc),
+            Step::Ends => Ok(ends(alloc)),
+            _ => Ok(tree.holds(id) && is_due_of(tree, id, self)),
+        }
     }
 }
 
 // The fast path appends a root without children if its parent accepts it without further checks, and takes no memory. Otherwise nothing changes.
 const LEAVES: &[Row] = &[
     (0, 1, Step::Document),
-    (1, 5, Step::Element(Some(0), "")),
-    (5, 6, Step::Element(None, "")),
-    (6, 134, Step::Element(Some(0), "")),
+    (1, 5, Step::Element(Some(0))),
+    (5, 6, Step::Element(None)),
+    (6, 134, Step::Element(Some(0))),
     (0, 1, Step::Begins),
     (2, 4, Step::PutLeaf(1, true)),
-    (1, 2, Step::Children(&[2, 3])),
     // The node has a parent, or has children, or is the parent, or is a Document.
     (2, 3, Step::PutLeaf(4, false)),
     (1, 2, Step::PutLeaf(4, false)),
@@ -324,13 +216,9 @@ const LEAVES: &[Row] = &[
     // There is no such node.
     (4, 5, Step::PutLeaf(500, false)),
     (500, 501, Step::PutLeaf(1, false)),
-    (1, 2, Step::Children(&[2, 3])),
-    (4, 5, Step::Children(&[])),
     // It is a root again, and is inserted elsewhere.
     (2, 3, Step::Cut),
     (2, 3, Step::PutLeaf(4, true)),
-    (1, 2, Step::Children(&[3])),
-    (4, 5, Step::Children(&[2])),
     // From 128 children on, room for blocks may be needed.
     (6, 133, Step::PutLeaf(1, true)),
     (133, 134, Step::PutLeaf(1, false)),
@@ -338,27 +226,13 @@ const LEAVES: &[Row] = &[
     (132, 133, Step::Index(127)),
 ];
 
-#[test]
-fn leaves_come_in_at_once(rt: HostRuntime) -> Result<(), Fail> {
-    expect(&rt, rt.alloc(), LEAVES)
-}
-
 // The element 6 is inserted before four others, whose indices grow. No index is cached until all are.
 const FIVE_CHILDREN: &[Row] = &[
     (0, 1, Step::Document),
-    (1, 2, Step::Element(Some(0), "")),
+    (1, 2, Step::Element(Some(0))),
     (2, 6, Step::Child(Some(0), 1)),
     (6, 7, Step::FirstChild(Some(0), 1)),
-    (2, 3, Step::MovedOn(1)),
-    (3, 4, Step::MovedOn(2)),
-    (4, 5, Step::MovedOn(3)),
-    (5, 6, Step::MovedOn(4)),
     (6, 7, Step::Index(0)),
-    (1, 2, Step::Children(&[6, 2, 3, 4, 5])),
-    (2, 3, Step::Children(&[])),
-    (1, 2, Step::ChildrenFrom(None, &[])),
-    (1, 2, Step::ChildrenFrom(Some(3), &[3, 4, 5])),
-    (1, 2, Step::ChildrenFrom(Some(5), &[5])),
     (3, 4, Step::Kept(None)),
     (5, 6, Step::Kept(None)),
     // Found from both sides. The node 1 is a root.
@@ -380,15 +254,10 @@ const FIVE_CHILDREN: &[Row] = &[
     (5, 6, Step::Kept(Some(4))),
 ];
 
-#[test]
-fn five_children_and_their_indices(rt: HostRuntime) -> Result<(), Fail> {
-    expect(&rt, rt.alloc(), FIVE_CHILDREN)
-}
-
 // The children are 301, 300 and so on, down to 2. Comparing two neighbours caches no index; comparing two far apart does.
 const FAR_APART: &[Row] = &[
     (0, 1, Step::Document),
-    (1, 2, Step::Element(Some(0), "")),
+    (1, 2, Step::Element(Some(0))),
     (2, 302, Step::FirstChild(Some(0), 1)),
     (151, 152, Step::ComesBefore(150, true)),
     (200, 201, Step::Kept(None)),
@@ -399,18 +268,13 @@ const FAR_APART: &[Row] = &[
     (100, 101, Step::ComesBefore(100, false)),
 ];
 
-#[test]
-fn children_far_apart_are_numbered_once_they_are_compared(rt: HostRuntime) -> Result<(), Fail> {
-    expect(&rt, rt.alloc(), FAR_APART)
-}
-
 // The children are 2, 3 and so on, up to 301. The first query has no room for blocks, and caches the indices of the preceding siblings. Once there is
 // room, the next query puts all children into blocks. Their indices are then known wherever children are inserted and removed.
 const IN_BLOCKS: &[Row] = &[
     (0, 1, Step::Document),
-    (1, 2, Step::Element(Some(0), "")),
+    (1, 2, Step::Element(Some(0))),
     (2, 302, Step::Child(Some(0), 1)),
-    (302, 310, Step::Element(Some(0), "")),
+    (302, 310, Step::Element(Some(0))),
     (302, 303, Step::Put(1, Some(2))),
     (150, 151, Step::Found(149)),
     (150, 151, Step::Kept(Some(149))),
@@ -440,33 +304,22 @@ const IN_BLOCKS: &[Row] = &[
     (301, 302, Step::Within(0, Some(303))),
     (306, 307, Step::Within(0, Some(304))),
     (199, 200, Step::Within(0, Some(202))),
-    (1, 2, Step::At(9, 200)),
-    (1, 2, Step::At(100, 303)),
-    (1, 2, Step::At(129, 304)),
-    (1, 2, Step::At(130, 128)),
-    (1, 2, Step::At(203, 201)),
-    (1, 2, Step::At(304, 306)),
     // Moves the first child of a block to another block.
     (128, 129, Step::Cut),
-    (1, 2, Step::At(130, 305)),
     (128, 129, Step::Put(1, Some(20))),
-    (1, 2, Step::At(20, 128)),
-    (1, 2, Step::At(130, 304)),
-    (1, 2, Step::At(131, 305)),
-    (1, 2, Step::At(132, 129)),
     (199, 200, Step::Within(0, Some(202))),
     (1, 2, Step::Ends),
 ];
 
 #[test]
 fn indices_in_blocks_stay_known_without_a_growth(rt: HostRuntime) -> Result<(), Fail> {
-    expect(&rt, rt.alloc(), IN_BLOCKS)
+    expect(&rt, rt.alloc(), &[("in blocks", IN_BLOCKS)])
 }
 
 // A parent and its children are freed with their blocks, and new nodes in their slots have none.
 const BLOCKS_LET_GO: &[Row] = &[
     (0, 1, Step::Document),
-    (1, 2, Step::Element(Some(0), "")),
+    (1, 2, Step::Element(Some(0))),
     (2, 302, Step::Child(Some(0), 1)),
     (302, 303, Step::FirstChild(Some(0), 1)),
     (150, 151, Step::Found(149)),
@@ -476,23 +329,16 @@ const BLOCKS_LET_GO: &[Row] = &[
     (150, 151, Step::Found(149)),
     (2, 302, Step::Behind(1)),
     (1, 2, Step::Free),
-    (303, 304, Step::Element(Some(0), "")),
+    (303, 304, Step::Element(Some(0))),
     (304, 604, Step::Child(Some(0), 303)),
     (454, 455, Step::Found(150)),
     (454, 455, Step::Kept(Some(150))),
-    (303, 304, Step::At(200, 504)),
 ];
 
-#[test]
-fn blocks_go_with_their_parent(rt: HostRuntime) -> Result<(), Fail> {
-    expect(&rt, rt.alloc(), BLOCKS_LET_GO)
-}
-
-// Appended children have cached indices. A removed child leaves the indices before it, and is appended again. A tree is freed if nothing refers to
-// it, and its numbers are not reused.
-const CUT_AND_LET_GO: &[Row] = &[
+// Appended children have cached indices. A removed child leaves the indices before it, and is appended again.
+const CUT_AND_PUT_BACK: &[Row] = &[
     (0, 1, Step::Document),
-    (1, 2, Step::Element(Some(0), "")),
+    (1, 2, Step::Element(Some(0))),
     (2, 6, Step::Child(Some(0), 1)),
     (2, 3, Step::Kept(Some(0))),
     (3, 4, Step::Kept(Some(1))),
@@ -505,28 +351,12 @@ const CUT_AND_LET_GO: &[Row] = &[
     (5, 6, Step::Index(2)),
     (4, 5, Step::Put(1, None)),
     (4, 5, Step::Index(3)),
-    // The element's node document, a child, and a root with its own children.
-    (0, 1, Step::Refers(true)),
-    (2, 3, Step::Refers(true)),
-    (1, 2, Step::Refers(false)),
-    (1, 2, Step::Free),
-    (0, 1, Step::Made(6, 1)),
-    (1, 2, Step::Held(false)),
-    (5, 6, Step::Held(false)),
-    (6, 7, Step::Element(Some(0), "")),
-    (0, 1, Step::Made(7, 2)),
-    (1, 2, Step::Held(false)),
 ];
-
-#[test]
-fn four_children_cut_and_let_go(rt: HostRuntime) -> Result<(), Fail> {
-    expect(&rt, rt.alloc(), CUT_AND_LET_GO)
-}
 
 // Compares two of three hundred children, caches all indices, moves one to the front, removes it and frees it.
 const WITHOUT_A_GROWTH: &[Row] = &[
     (0, 1, Step::Document),
-    (1, 2, Step::Element(Some(0), "")),
+    (1, 2, Step::Element(Some(0))),
     (2, 302, Step::FirstChild(Some(0), 1)),
     (0, 1, Step::Begins),
     (200, 201, Step::ComesBefore(100, true)),
@@ -537,18 +367,17 @@ const WITHOUT_A_GROWTH: &[Row] = &[
     (150, 151, Step::Cut),
     (150, 151, Step::Free),
     (0, 1, Step::Ends),
-    (150, 151, Step::Held(false)),
 ];
 
 #[test]
 fn children_without_a_growth(rt: HostRuntime) -> Result<(), Fail> {
-    expect(&rt, rt.alloc(), WITHOUT_A_GROWTH)
+    expect(&rt, rt.alloc(), &[("three hundred", WITHOUT_A_GROWTH)])
 }
 
 // The elements and doctypes of a Document are counted. Those of an element are not, and neither are those of an element in a Document's old slot.
 const COUNTED_BY_KIND: &[Row] = &[
     (0, 1, Step::Document),
-    (1, 2, Step::Element(Some(0), "")),
+    (1, 2, Step::Element(Some(0))),
     (2, 3, Step::Child(Some(0), 1)),
     (0, 1, Step::Begins),
     (0, 1, Step::OfKind(Kind::Element, Some(0))),
@@ -558,13 +387,27 @@ const COUNTED_BY_KIND: &[Row] = &[
     (0, 1, Step::Ends),
     (1, 2, Step::Free),
     (0, 1, Step::Free),
-    (3, 4, Step::Element(None, "")),
+    (3, 4, Step::Element(None)),
     (3, 4, Step::OfKind(Kind::Element, None)),
     (4, 5, Step::Document),
     (4, 5, Step::OfKind(Kind::Element, Some(0))),
 ];
 
 #[test]
-fn a_document_knows_how_many_elements_it_has(rt: HostRuntime) -> Result<(), Fail> {
-    expect(&rt, rt.alloc(), COUNTED_BY_KIND)
+fn scenes(rt: HostRuntime) -> Result<(), Fail> {
+    let scenes = [
+        ("leaves come in at once", LEAVES),
+        ("five children and their indices", FIVE_CHILDREN),
+        (
+            "children far apart are numbered once they are compared",
+            FAR_APART,
+        ),
+        ("blocks go with their parent", BLOCKS_LET_GO),
+        (
+            "four children, one cut and appended again",
+            CUT_AND_PUT_BACK,
+        ),
+        ("a document knows how many elements it has", COUNTED_BY_KIND),
+    ];
+    expect(&rt, rt.alloc(), &scenes)
 }
