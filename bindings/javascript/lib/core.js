@@ -107,8 +107,9 @@ export class Session {
   links = 0;
   /** Which numbers have had wrappers. */
   marks = new Marks();
-  /** What the facade knows of each Document: its type, its content type, its realm. */
+  /** What the facade knows of each Document: its type, its content type, its realm; and the realm of the first. */
   documents = new Map();
+  realm = null;
   /** What marks and names mean (see names.js). */
   elementNames = new Map();
   htmlNames = new Map();

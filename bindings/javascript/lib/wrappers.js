@@ -26,10 +26,12 @@ const LAST_AT = 6;
 /** Up to this many wrapped children are searched one by one. More are moved into a table by number when one is first looked for. */
 const FEW = 8;
 
-const CHILD = 1;
-const KNOWN = 2;
-const HELD = 4;
-const TABLED = 8;
+/** The bits of a state: a node's kind, and whether it is a child, is found by its number, is held until the program waits, has a table of children. */
+const KIND_BITS = 15;
+const CHILD = 16;
+const KNOWN = 32;
+const HELD = 64;
+const TABLED = 128;
 
 // ---- A cache of the nodes that were made or found last, by number. It is held until the program waits, and then until the next garbage collection.
 
@@ -67,37 +69,48 @@ Session.forgetRecent = () => {
 
 const mayHaveChildren = (kind) => kind === ELEMENT || kind === DOCUMENT || kind === FRAGMENT;
 
-/** Returns the first and last child of a new node of a kind: null if it can't have children, otherwise undefined. */
+/** Returns the first and last child of a node of a kind that was not asked: null if it can't have children, otherwise undefined. */
 const endsOf = (kind) => (mayHaveChildren(kind) ? undefined : null);
 
 /** The state of a node's object. It has other nodes by their states. */
 class NodeIs {
-  constructor(session, number, kind, realm, name, end) {
+  /** A child has its parent from the start, and the sibling before it if that is known: an engine writes these faster into a new object. */
+  constructor(session, number, state, name, end, above, previous) {
     // (the fields that a walk reads are first, and so together in memory)
     this.session = session;
-    // The links to its neighbours, and the count of the session for which they are valid: none is known yet.
+    // The links to its neighbours, and the count of the session for which they are valid.
     this.stamp = session.links;
     this.first = end;
     this.next = undefined;
     this.object = null;
     // The parent, or the Document of a root.
-    this.above = null;
-    // Whether it is a child, whether the session finds it by its number and holds it until the program waits, and whether it has a table: a bit each.
-    this.state = 0;
-    this.kind = kind;
+    this.above = above;
+    this.state = state;
     // What an element's name says (see names.js), and its attributes (see attributes.js); of a text its data, as long as the links hold.
     this.name = name;
     this.values = null;
-    this.previous = undefined;
+    this.previous = previous;
     this.last = end;
     this.number = number;
     this.kept = null;
-    this.realm = realm;
     // The wrapped children in no order: the first, and for each the one behind it and the one ahead of it; or a table of them.
     this.below = null;
     this.behind = null;
     this.ahead = null;
     session.marks.add(number);
+  }
+
+  get kind() {
+    return this.state & KIND_BITS;
+  }
+
+  set kind(kind) {
+    this.state = (this.state & ~KIND_BITS) | kind;
+  }
+
+  /** The realm of its interface: that of the session, unless another one is kept. */
+  get realm() {
+    return this.kept?.realm ?? this.session.realm;
   }
 
   // ---- The wrapped children of a parent.
@@ -113,10 +126,15 @@ class NodeIs {
   }
 
   enter(parent) {
-    if ((parent.state & TABLED) !== 0) parent.below.set(this.number, this);
-    else this.chain(parent);
     this.above = parent;
     this.state |= CHILD;
+    this.join(parent);
+  }
+
+  /** Comes among the wrapped children of its parent. */
+  join(parent) {
+    if ((parent.state & TABLED) !== 0) parent.below.set(this.number, this);
+    else this.chain(parent);
   }
 
   /** Puts it ahead of the wrapped children of a parent that has no table. */
@@ -182,20 +200,27 @@ class NodeIs {
     return made;
   }
 
-  /** Returns the state of a child by its number, with valid links; makes its wrapper by its kind and name if there is none. */
-  adopted(number, kind, name) {
+  /** Returns the state of the child of a row (see below), with valid links, behind a sibling, null for none; makes its wrapper if there is none. */
+  adopted(row, previous) {
     const { session, realm } = this;
+    const number = words[row + NUMBER];
     const found = session.marks.has(number) ? this.child(number) : undefined;
-    if (found !== undefined) {
-      found.fresh();
-      return found;
-    }
-    const its = kind === ELEMENT ? elementByNumber(session, name) : null;
+    if (found !== undefined) return found.goingOn(previous);
+    const kind = words[row + KIND];
+    const name = kind === ELEMENT ? elementByNumber(session, words[row + NAME]) : null;
     // (the cache of nodes gets those alone that have several children: a write into it takes long, and the others are found from these)
-    const made = new NodeIs(session, number, kind, realm, its, endsOf(kind));
-    makerOf(session, number, kind, realm, its).make(made);
-    made.enter(this);
+    const made = new NodeIs(session, number, kind | CHILD, name, endsOf(kind), this, previous);
+    makerOf(kind, realm, name).make(made);
+    made.join(this);
+    if (realm !== session.realm) made.kept = { realm };
     return made;
+  }
+
+  /** Keeps which sibling it follows, null for none, with valid links; returns itself. */
+  goingOn(previous) {
+    this.fresh();
+    this.previous = previous;
+    return this;
   }
 
   root() {
@@ -225,18 +250,6 @@ class NodeIs {
   link(next) {
     this.fresh();
     next.fresh();
-    this.next = next;
-    next.previous = this;
-  }
-
-  /** Keeps its first child, or the sibling that follows it, which is read after it; both have links of now. */
-  beginWith(child) {
-    this.first = child;
-    child.previous = null;
-  }
-
-  goOnWith(next) {
-    if (this.previous === null) remember(this.above);
     this.next = next;
     next.previous = this;
   }
@@ -493,17 +506,16 @@ const [NUMBER, PARENT, KIND, NAME, ROW] = [0, 1, 2, 3, 4];
 /** Makes objects of rows in tree order, and links them; returns the first one's state. All links are then those of now. */
 function linked(parent, from, count, isWhole) {
   parent.fresh();
-  let first = null;
-  let last = null;
-  for (let at = from; at < from + count; at += ROW) {
-    const isBelow = last !== null && last.number === words[at + PARENT];
-    if (last !== null && !isBelow) last = up(last, words[at + PARENT]);
-    const above = isBelow ? last : (last?.above ?? parent);
-    const its = above.adopted(words[at + NUMBER], words[at + KIND], words[at + NAME]);
-    if (isBelow) above.beginWith(its);
-    else if (last !== null) last.goOnWith(its);
-    first ??= its;
-    last = its;
+  const first = parent.adopted(from, undefined);
+  let last = first;
+  for (let row = from + ROW; row < from + count; row += ROW) {
+    const number = words[row + PARENT];
+    const before = last.number === number ? null : up(last, number);
+    const above = before === null ? last : before.above;
+    last = above.adopted(row, before);
+    if (before === null) above.first = last;
+    else before.next = last;
+    if (before !== null && before.previous === null) remember(above);
   }
   // (which has both forgotten once the program waits)
   if (recent === null) recentNow();
@@ -632,16 +644,16 @@ function nameAsked(session, number) {
 }
 
 /** What makes a node's object in a realm, which may tell elements apart by their names. */
-function makerOf(session, number, kind, realm, name) {
-  if (name !== null && realm.elementMaker) return realm.elementMaker(name);
-  return kind === DOCUMENT && documentIs(session, number).isXMLDocument ? realm.makers.XMLDocument : realm.kinds[kind];
-}
+const makerOf = (kind, realm, name) => (name !== null && realm.elementMaker !== null ? realm.elementMaker(name) : realm.kinds[kind]);
+
+const isOfXML = (session, number, kind) => kind === DOCUMENT && documentIs(session, number).isXMLDocument;
 
 /** Makes an object of a node; returns its state. */
 function make(session, number, kind, realm, name = null) {
   const known = name === null && kind === ELEMENT && realm.elementMaker ? nameAsked(session, number) : name;
-  const its = new NodeIs(session, number, kind, realm, known, endsOf(kind));
-  makerOf(session, number, kind, realm, known).make(its);
+  const its = new NodeIs(session, number, kind, known, endsOf(kind), null, undefined);
+  if (realm !== session.realm) its.kept = { realm };
+  (isOfXML(session, number, kind) ? realm.makers.XMLDocument : makerOf(kind, realm, known)).make(its);
   remember(its);
   return its;
 }
@@ -744,6 +756,7 @@ export function wrapBare(document, number, kind, name = null) {
 /** Says what a new Document is, and answers its object. */
 export function wrapDocument(session, number, its) {
   session.documents.set(number, its);
+  session.realm ??= its.realm;
   const made = make(session, number, DOCUMENT, its.realm);
   made.know();
   return made.object;
