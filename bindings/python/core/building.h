@@ -266,7 +266,7 @@ static void building_ends(Builder *it)
 {
     moved(it->calls);
     it->calls->order = it->order;
-    it->order = (Order){ NULL, 0, 0 };
+    it->order = (Order){ NULL, 0, 0, 0 };
 }
 
 /* ---- the object */

@@ -274,6 +274,91 @@ static PyObject *module_attribute(PyObject *self, PyObject *words)
     return get ? attribute_made(kind, get, set, doc) : none();
 }
 
+/* ---- attributes of classes that have none below them */
+
+/* An attribute that is asked of an object of its class without a look at the classes above. Python's own attribute answers all else. */
+typedef struct {
+    PyObject_HEAD
+    PyTypeObject *kind;
+    PyObject *usual;
+    PyCFunction get;
+} Quick;
+
+static __attribute__((noinline)) PyObject *usual_get(PyObject *self, PyObject *of, PyObject *kind)
+{
+    return PyObject_CallMethod(((Quick *)self)->usual, "__get__", "OO", of ? of : Py_None, kind ? kind : Py_None);
+}
+
+static PyObject *quick_get(PyObject *self, PyObject *of, PyObject *kind)
+{
+    const Quick *it = (const Quick *)self;
+    return of && Py_TYPE(of) == it->kind ? it->get(of, NULL) : usual_get(self, of, kind);
+}
+
+static int quick_set(PyObject *self, PyObject *of, PyObject *value)
+{
+    PyObject *usual = ((Quick *)self)->usual;
+    PyObject *said = value ? PyObject_CallMethod(usual, "__set__", "OO", of, value) : PyObject_CallMethod(usual, "__delete__", "O", of);
+    Py_XDECREF(said);
+    return said ? 0 : -1;
+}
+
+static PyObject *quick_doc(PyObject *self, void *closure)
+{
+    (void)closure;
+    return PyObject_GetAttrString(((Quick *)self)->usual, "__doc__");
+}
+
+static int quick_traverse(PyObject *self, visitproc visit, void *arg)
+{
+    Py_VISIT((PyObject *)((Quick *)self)->kind);
+    Py_VISIT(((Quick *)self)->usual);
+    return 0;
+}
+
+static void quick_dealloc(PyObject *self)
+{
+    PyTypeObject *type = Py_TYPE(self);
+    PyObject_GC_UnTrack(self);
+    Py_XDECREF((PyObject *)((Quick *)self)->kind);
+    Py_XDECREF(((Quick *)self)->usual);
+    PyObject_GC_Del(self);
+    Py_DECREF(type);
+}
+
+static PyGetSetDef quick_gets[] = {
+    { "__doc__", quick_doc, NULL, NULL, NULL },
+    { NULL, NULL, NULL, NULL, NULL },
+};
+
+static PyType_Slot quick_slots[] = {
+    { Py_tp_getset, quick_gets },
+    { Py_tp_descr_get, quick_get },
+    { Py_tp_descr_set, quick_set },
+    { Py_tp_traverse, quick_traverse },
+    { Py_tp_dealloc, quick_dealloc },
+    { 0, NULL },
+};
+
+static PyType_Spec quick_spec = { "huckleport._core.Quick", sizeof(Quick), 0, Py_TPFLAGS_DEFAULT | Py_TPFLAGS_HAVE_GC, quick_slots };
+
+/* Makes the quick form of an attribute: of a class, by the name of both. */
+static PyObject *module_quick(PyObject *self, PyObject *words)
+{
+    PyObject *kind = NULL, *usual = NULL;
+    const char *name = NULL;
+    if (!PyArg_ParseTuple(words, "O!sO", &PyType_Type, &kind, &name, &usual))
+        return NULL;
+    const PyMethodDef *get = member_of(name);
+    Quick *it = get ? (Quick *)PyType_GenericAlloc(state_of(self)->quick_type, 0) : NULL;
+    if (!it)
+        return get ? NULL : none();
+    it->kind = (PyTypeObject *)same(kind);
+    it->usual = same(usual);
+    it->get = get->ml_meth;
+    return (PyObject *)it;
+}
+
 /* What makes a tuple of any class: that of a class which leaves it as it is. (The slots of tuple itself are hidden before 3.10.) */
 static newfunc tuple_maker(void)
 {
@@ -287,6 +372,7 @@ static PyMethodDef module_methods[] = {
     { "settle", module_settle, METH_O, "Takes the classes and functions of the package, by their names." },
     { "member", module_member, METH_VARARGS, "A method of a class, by the name of both, with a docstring, or None." },
     { "attribute", module_attribute, METH_VARARGS, "An attribute of a class, by the name of both, with a docstring, or None." },
+    { "quick", module_quick, METH_VARARGS, "The quick form of an attribute of a class that has none below it, by the name of both." },
     { NULL, NULL, 0, NULL },
 };
 
@@ -339,7 +425,7 @@ static int module_fill(PyObject *module)
     tuple_new = tuple_maker();
     bool done = tuple_new && take_collector(state) && structs_made(module, state) && add_type(module, "Calls", &calls_spec, &state->calls_type) &&
         add_type(module, "Thing", &thing_spec, &state->thing_type) && add_type(module, "Builder", &builder_spec, &state->builder_type) &&
-        add_type(module, "Walk", &walk_spec, &state->walk_type);
+        add_type(module, "Walk", &walk_spec, &state->walk_type) && add_type(module, "Quick", &quick_spec, &state->quick_type);
     return done ? 0 : -1;
 }
 
@@ -354,6 +440,7 @@ static int module_traverse(PyObject *module, visitproc visit, void *arg)
         Py_VISIT((PyObject *)state->thing_type);
         Py_VISIT((PyObject *)state->builder_type);
         Py_VISIT((PyObject *)state->walk_type);
+        Py_VISIT((PyObject *)state->quick_type);
         Py_VISIT(state->refuse_hook);
         Py_VISIT(state->name_hook);
     }

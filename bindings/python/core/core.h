@@ -46,7 +46,7 @@ enum {
  * by the module, by its types and by each session, and goes with the last of them. */
 typedef struct {
     size_t holders;
-    PyTypeObject *calls_type, *thing_type, *builder_type, *walk_type;
+    PyTypeObject *calls_type, *thing_type, *builder_type, *walk_type, *quick_type;
     PyTypeObject *structs[STRUCTS];
     PyObject *kinds[KINDS];
     /* The names of those kinds that have none of their own, as the library prints them. */

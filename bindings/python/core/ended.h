@@ -6,7 +6,7 @@
 
 static inline uint8_t status_read(uint8_t status)
 {
-    return status == HP_ENDED ? HP_OK : status;
+    return __builtin_expect(status == HP_ENDED, 0) ? HP_OK : status;
 }
 
 #undef hp_attribute_at

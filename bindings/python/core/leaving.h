@@ -44,16 +44,20 @@ typedef struct Waiting {
     struct Waiting *next, *previous;
 } Waiting;
 
-/* A node in a tree: how deep it stands below the root, and its kind. */
+enum { DEPTH_BITS = 27 };
+
+/* A node in a tree: how deep it stands below the root, its kind, and whether it has one child, which is a Text. The last is so only if both have the
+ * numbers that they have if all nodes of the tree have one behind the other. */
 typedef struct {
     uint32_t number;
-    uint32_t depth : 28, kind : 4;
+    uint32_t depth : DEPTH_BITS, has_one_text : 1, kind : 4;
 } Ranked;
 
-/* All nodes of a tree in tree order. */
+/* All nodes of a tree in tree order, and the number of the first. */
 typedef struct {
     Ranked *at;
     size_t length, room;
+    uint32_t first;
 } Order;
 
 /* What a call has to wait for: another thread in a long call, or room for a copy of the library's last answer. */
@@ -109,20 +113,32 @@ typedef struct {
 static void order_drop(Order *it)
 {
     PyMem_Free(it->at);
-    *it = (Order){ NULL, 0, 0 };
+    *it = (Order){ NULL, 0, 0, 0 };
+}
+
+/* Tells the last node that the next one is its child, or the one before it that its Text has a sibling. */
+static inline void order_tell(Order *it, uint32_t number, size_t depth, uint8_t kind)
+{
+    Ranked *end = it->at + it->length;
+    if (kind == KIND_TEXT && it->length && end[-1].depth + 1u == depth)
+        end[-1].has_one_text = number == it->first + it->length && end[-1].number + 1 == number;
+    else if (it->length > 1 && end[-2].has_one_text && end[-1].depth == depth)
+        end[-2].has_one_text = false;
 }
 
 static bool order_push(Order *it, uint32_t number, size_t depth, uint8_t kind)
 {
     if (it->length == it->room) {
         size_t room = it->room ? 2 * it->room : 32;
-        Ranked *wider = depth < 1 << 28 ? PyMem_Realloc(it->at, room * sizeof(Ranked)) : NULL;
+        Ranked *wider = depth < 1 << DEPTH_BITS ? PyMem_Realloc(it->at, room * sizeof(Ranked)) : NULL;
         if (!wider)
             return out_of_memory();
         it->at = wider;
         it->room = room;
     }
-    it->at[it->length++] = (Ranked){ number, (uint32_t)depth, kind };
+    order_tell(it, number, depth, kind);
+    it->first = it->length ? it->first : number;
+    it->at[it->length++] = (Ranked){ number, (uint32_t)depth, false, kind };
     return true;
 }
 

@@ -456,35 +456,23 @@ static bool has_first_child(hp_session *session, uint32_t node, uint32_t *child,
     return hp_first_child(session, node, child) == HP_OK && *child != HP_NONE && hp_links(session, *child, links) == HP_OK;
 }
 
-/* Returns the one child of a node if that is a Text, or HP_NONE. */
-static __attribute__((noinline)) uint32_t one_text_asked(hp_session *session, uint32_t node)
+/* Whether a node has one child, which is a Text: its data is lent. */
+static __attribute__((noinline)) bool is_one_text_asked(hp_session *session, uint32_t node, hp_text_view *to)
 {
     uint32_t child = HP_NONE;
     hp_node_links links;
-    return has_first_child(session, node, &child, &links) && links.kind == KIND_TEXT && links.next == HP_NONE ? child : HP_NONE;
+    return has_first_child(session, node, &child, &links) && links.kind == KIND_TEXT && links.next == HP_NONE && hp_data_of(session, child, to) == HP_OK;
 }
 
-/* Whether the node of a row of a tree that was gone through has one child, which is a Text. Behind it are rows up to an end. */
-static inline bool has_one_text(const Ranked *it, const Ranked *end)
-{
-    return it + 1 < end && it[1].kind == KIND_TEXT && it[1].depth == it->depth + 1u && (it + 2 == end || it[2].depth <= it->depth);
-}
-
-/* Returns the one child of a node if that is a Text, or HP_NONE. The tree that was gone through last answers if it has the node. The nodes of a parser
- * or a copy are numbered in tree order, so that the place of one is most often told by its number. */
-static inline uint32_t one_text(Calls *calls, uint32_t node)
-{
-    const Ranked *first = calls->order.at, *end = first + calls->order.length;
-    const size_t at = first == end ? 0 : (size_t)node - first->number;
-    bool is_known = at < calls->order.length && first[at].number == node && has_one_text(first + at, end);
-    return is_known ? first[at + 1].number : one_text_asked(&calls->session, node);
-}
-
-/* Whether a node has one child, which is a Text: its data is lent. */
+/* The same: the tree that was gone through last answers if it has the node. The nodes of a parser or a copy are numbered in tree order, so that the
+ * place of one is most often told by its number. */
 static inline bool is_one_text(Calls *calls, uint32_t node, hp_text_view *to)
 {
-    uint32_t child = one_text(calls, node);
-    return child != HP_NONE && hp_data_of(&calls->session, child, to) == HP_OK;
+    const Order *order = &calls->order;
+    const uint32_t at = node - order->first;
+    if (at < order->length && order->at[at].has_one_text)
+        return status_read((hp_data_of)(&calls->session, node + 1, to)) == HP_OK;
+    return is_one_text_asked(&calls->session, node, to);
 }
 
 /* The text in a node. Fast path: a node with one child that is a Text, other than a Document, which has none. */
@@ -533,17 +521,22 @@ static PyObject *texts_from(hp_session *session, uint32_t first)
     return found;
 }
 
+/* The data of the Texts that a node begins with. */
+static __attribute__((noinline)) PyObject *first_texts(PyObject *self)
+{
+    uint32_t child = HP_NONE;
+    uint8_t status = hp_first_child(session_of(self), number_of(self), &child);
+    return status ? refused_of(status, "first_child", self, NULL, 0) : texts_from(session_of(self), child);
+}
+
 static PyObject *node_text(PyObject *self, PyObject *nothing)
 {
     (void)nothing;
     if (is_busy(((Thing *)self)->calls))
         return NULL;
     hp_text_view view;
-    uint32_t child = HP_NONE;
-    if (is_one_text(((Thing *)self)->calls, number_of(self), &view))
-        return text_from(view.units, view.length);
-    uint8_t status = hp_first_child(session_of(self), number_of(self), &child);
-    return status ? refused_of(status, "first_child", self, NULL, 0) : texts_from(session_of(self), child);
+    bool is_one = is_one_text(((Thing *)self)->calls, number_of(self), &view);
+    return is_one ? text_here(view.units, view.length) : first_texts(self);
 }
 
 static PyObject *node_tail(PyObject *self, PyObject *nothing)

@@ -23,6 +23,7 @@ static void state_let_go(State *it)
     Py_XDECREF((PyObject *)it->thing_type);
     Py_XDECREF((PyObject *)it->builder_type);
     Py_XDECREF((PyObject *)it->walk_type);
+    Py_XDECREF((PyObject *)it->quick_type);
     for (int at = 0; at < STRUCTS; at++)
         Py_XDECREF((PyObject *)it->structs[at]);
     for (int at = 0; at < KINDS; at++) {

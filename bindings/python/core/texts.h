@@ -232,34 +232,39 @@ static PyObject *name_from(const uint8_t *octets, size_t length)
 /* The bits of units, four units side by side: those that no octet has, and those that no character of ASCII has. */
 static const uint64_t NO_OCTETS = 0xFF00FF00FF00FF00, NO_ASCII = 0xFF80FF80FF80FF80;
 
-/* Makes a str of octets that are a character each; bits are all the bits that their units have. Python decodes ASCII fastest as UTF-8. */
-static inline PyObject *octets_from(const char *octets, size_t length, uint64_t bits)
-{
-    return bits & NO_ASCII ? PyUnicode_DecodeLatin1(octets, (Py_ssize_t)length, NULL) : PyUnicode_DecodeUTF8(octets, (Py_ssize_t)length, NULL);
-}
-
-/* Puts the last units down as octets, as many as are left of fours. Returns the bits that they have. */
-static inline uint64_t narrowed_rest(const uint16_t *units, size_t count, char *to)
+/* Puts less than four units down as octets. Returns the bits that they have. */
+static inline uint64_t narrowed_few(const uint16_t *units, size_t length, char *to)
 {
     uint64_t bits = 0;
-    for (size_t at = 0; at < count % 4; at++) {
+    for (size_t at = 0; at < length; at++) {
         bits |= units[at];
         to[at] = (char)units[at];
     }
     return bits;
 }
 
-/* Puts units down as octets, four at once. Returns the bits that they have. */
+/* Puts four units down as octets. Returns the bits that they have. */
+static inline uint64_t narrowed_four(const uint16_t *units, char *to)
+{
+    uint64_t four;
+    memcpy(&four, units, sizeof(four));
+    const uint64_t two = (four | four >> 8) & 0x0000FFFF0000FFFF;
+    const uint32_t octets = (uint32_t)(two | two >> 16);
+    memcpy(to, &octets, sizeof(octets));
+    return four;
+}
+
+/* Puts units down as octets, four at once from the end on: the first four come last, also if some of them were put down before. Returns the bits that
+ * they have. */
 static inline uint64_t narrowed(const uint16_t *units, size_t length, char *to)
 {
-    const size_t whole = length - length % 4;
-    uint64_t four, bits = narrowed_rest(units + whole, length, to + whole);
-    for (size_t at = 0; at < whole; at += 4) {
-        memcpy(&four, units + at, sizeof(four));
-        bits |= four;
-        four = (four | four >> 8) & 0x0000FFFF0000FFFF;
-        const uint32_t octets = (uint32_t)(four | four >> 16);
-        memcpy(to + at, &octets, sizeof(octets));
+    if (length < 4)
+        return narrowed_few(units, length, to);
+    size_t at = length - 4;
+    uint64_t bits = narrowed_four(units + at, to + at);
+    while (at) {
+        at = at > 4 ? at - 4 : 0;
+        bits |= narrowed_four(units + at, to + at);
     }
     return bits;
 }
@@ -312,25 +317,34 @@ static PyObject *broad_from(const uint16_t *units, size_t length)
     return PyUnicode_DecodeUTF16((const char *)units, (Py_ssize_t)(2 * length), "strict", &order);
 }
 
+/* Makes a str of units, for which there is room as octets. Python decodes ASCII fastest as UTF-8. */
+static inline __attribute__((always_inline)) PyObject *text_by(const uint16_t *units, size_t length, char *octets)
+{
+    const uint64_t bits = narrowed(units, length, octets);
+    if (!(bits & NO_ASCII))
+        return PyUnicode_DecodeUTF8(octets, (Py_ssize_t)length, NULL);
+    return bits & NO_OCTETS ? broad_from(units, length) : PyUnicode_DecodeLatin1(octets, (Py_ssize_t)length, NULL);
+}
+
 /* Makes a str of units that are too many for the stack. */
 static __attribute__((noinline)) PyObject *long_text_from(const uint16_t *units, size_t length)
 {
     char *octets = PyMem_Malloc(length);
-    if (!octets)
-        return PyErr_NoMemory();
-    const uint64_t bits = narrowed(units, length, octets);
-    PyObject *found = bits & NO_OCTETS ? broad_from(units, length) : octets_from(octets, length, bits);
+    PyObject *found = octets ? text_by(units, length, octets) : PyErr_NoMemory();
     PyMem_Free(octets);
     return found;
 }
 
+/* Makes a str of units, in the code that asks for it. */
+static inline __attribute__((always_inline)) PyObject *text_here(const uint16_t *units, size_t length)
+{
+    uint64_t octets[ROOM / sizeof(uint64_t)];
+    return length > ROOM ? long_text_from(units, length) : text_by(units, length, (char *)octets);
+}
+
 static PyObject *text_from(const uint16_t *units, size_t length)
 {
-    char octets[ROOM];
-    if (length > ROOM)
-        return long_text_from(units, length);
-    const uint64_t bits = narrowed(units, length, octets);
-    return bits & NO_OCTETS ? broad_from(units, length) : octets_from(octets, length, bits);
+    return text_here(units, length);
 }
 
 #endif

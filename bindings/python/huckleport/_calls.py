@@ -8,6 +8,9 @@ from typing import Any, Dict, TypeVar
 
 K = TypeVar("K", bound=type)
 
+# Classes of nodes that have attributes of their own, and no class below them.
+LAST = {"DocumentType", "Element", "ProcessingInstruction"}
+
 MISSING = """the extension module huckleport._core is not here, and nothing runs without it.
 In the repository these make it, by gcc and Python's headers:
   python3 bindings/c/make.py
@@ -47,11 +50,18 @@ def _family(kind: type) -> type:
     return next(it for it in kind.__mro__ if "_family" in vars(it))
 
 
+def _attribute(kind: type, name: str, it: property) -> Any:
+    """What the extension module has in place of an attribute, or None."""
+    found = core.attribute(_family(kind), name, it.__doc__ or "")
+    if found is None or it.fset is None:
+        return core.quick(kind, name, found) if found and kind.__name__ in LAST else found
+    return found if core.member(_family(kind), f"{name}=", "") else property(found.__get__, it.fset, None, it.__doc__)
+
+
 def _in_core(kind: type, name: str, it: Any) -> Any:
     """What the extension module has in place of a member, or None."""
     if isinstance(it, property):
-        found = core.attribute(_family(kind), f"{kind.__name__}.{name}", it.__doc__ or "")
-        return found if it.fset is None or core.member(_family(kind), f"{kind.__name__}.{name}=", "") else found and property(found.__get__, it.fset, None, it.__doc__)
+        return _attribute(kind, f"{kind.__name__}.{name}", it)
     return core.member(_family(kind), f"{kind.__name__}.{name}", _spelled(name, it)) if isinstance(it, FunctionType) else None
 
 

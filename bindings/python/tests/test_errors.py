@@ -235,7 +235,7 @@ class LongCalls(unittest.TestCase):
         self.root = document.append_child(document.create_element("root"))
         for _ in range(20):
             self.root.append(*("text" for _ in range(50)))
-        while self.root.length < 64000:
+        while self.root.length < 200000:
             self.root.append(self.root.clone_node(True))
             self.root.last_child.replace_with(*self.root.last_child.child_nodes)
 

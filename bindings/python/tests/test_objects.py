@@ -2,6 +2,7 @@
 import ast
 import copy
 import gc
+import inspect
 import os
 import pickle
 import threading
@@ -114,6 +115,25 @@ class Objects(unittest.TestCase):
         for member, *words in calls:
             self.assertRaisesRegex(TypeError, "doesn't apply", member, *words)
         self.assertEqual(h.Node.first_child.__get__(self.document), self.element)
+
+    def test_attributes_of_elements_alone(self):
+        """They are Python's own in all but the way to them."""
+
+        class Of(h.Element):
+            pass
+
+        for name in ("text", "tag_name"):
+            quick, usual, value = vars(h.Element)[name], getattr(h.Element, name), getattr(self.element, name)
+            self.assertTrue(inspect.isgetsetdescriptor(usual))
+            self.assertTrue(quick.__doc__ and quick.__doc__ == usual.__doc__)
+            found = quick.__get__(self.element), usual.__get__(self.element), getattr(Of(self.session, self.element.number), name)
+            self.assertEqual(found, (value, value, value))
+            self.assertIs(quick.__get__(None, h.Element), usual)
+            for change in (lambda: setattr(self.element, name, "x"), lambda: delattr(self.element, name)):
+                self.assertRaises(AttributeError, change)
+            self.assertRaises(TypeError, quick.__get__, 7)
+            self.assertRaises(TypeError, quick.__get__, None, None)
+        self.assertIsNone(h.Element.text.__get__(self.text))
 
     def test_ranges(self):
         with_ends = self.document.create_range()

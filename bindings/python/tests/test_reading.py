@@ -1,6 +1,7 @@
 """What reads many nodes by one call gives what single calls give; and moves that keep bookmarks."""
 import ast
 import inspect
+import itertools
 import os
 import random
 import unittest
@@ -129,10 +130,48 @@ def written(node):
     return f"<{node.tag_name}{pairs}>{''.join(written(it) for it in node.child_nodes)}</{node.tag_name}>"
 
 
+def text_of(element):
+    """The data of the Texts that an element begins with, by single calls, or None."""
+    found = list(itertools.takewhile(lambda it: isinstance(it, h.Text), element.child_nodes))
+    units = "".join(it.data for it in found).encode("utf-16-le", "surrogatepass")
+    return units.decode("utf-16-le", "surrogatepass") if found else None
+
+
+class Texts(unittest.TestCase):
+    def test_units(self):
+        """A text of each length, with a character of each kind at each end, is the same as data and as a text of its element."""
+        document = h.Session().document
+        element, text = document.create_element("e"), document.create_text_node("")
+        element.append(text)
+        for length, sign in itertools.product((*range(20), *range(252, 262)), "a\x7f\x80\xff\u0100\uffff\U0001f600\ud83d\ude00"):
+            for at in {0, length // 2, *range(max(length - 5, 0), length)}:
+                text.data = due = ("some text here " * 18)[:at] + sign + ("and more text " * 19)[: length - at]
+                self.assertEqual((text.data, element.text, element.text_content), (due, due, due))
+
+    def test_all_children(self):
+        """The text of an element with any children, in a tree that was gone through, and behind what has other numbers."""
+        parts = ("one", "<a/>", "<a>two</a>", "<!--c-->", "<a>three<b/></a>", "<a><b/>four</a>", "<a><b>five</b></a>")
+        for found in itertools.product(("", *parts), repeat=3):
+            document = h.xml.parse(f"<r>{''.join(found)}</r>")
+            self.check(document)
+            root = document.document_element
+            root.prepend(*root.child_nodes[1:])
+            self.check(document)
+            root.append("six", document.create_element("a"), "seven")
+            root.children[-1].append("eight", "nine")
+            self.check(document)
+
+    def check(self, document):
+        elements = list(document.descendants(h.Element))
+        self.assertEqual([it.text for it in elements], list(map(text_of, elements)))
+        self.assertEqual(document.session.text_content_of(elements), ["".join(it.itertext()) for it in elements])
+
+
 class Kept(unittest.TestCase):
-    """Cached orders of trees and names of attributes are those that single calls return, whatever was edited between."""
+    """Cached orders of trees, names of attributes and texts are those that single calls return, whatever was edited between."""
 
     def check(self, root):
+        self.assertEqual([it.text for it in root.descendants(h.Element)], [text_of(it) for it in below(root) if isinstance(it, h.Element)])
         self.assertEqual(list(root.descendants()), list(below(root)))
         self.assertEqual(root.get_elements_by_tag_name("x"), [it for it in below(root) if isinstance(it, h.Element) and it.tag_name == "x"])
         self.assertEqual(h.html.serialize(root), written(root))
