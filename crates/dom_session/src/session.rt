@@ -10,7 +10,7 @@ ghost use Rattle.dom_commands.specs.Brief.{reply_of};
 ghost use Rattle.dom_commands.specs.Views.{command_view, making_view, editing_view, reading_view, reply_view};
 ghost use Rattle.dom_session.specs.SessionViews.{StandsFor, IsAnswered, held_world};
 ghost use Rattle.dom_session.specs.OutOfMemory.{IsLeft, IsAsBefore};
-ghost use Rattle.dom_session.specs.GoingOn.{is_question, goes_on, is_all_or_nothing_unobserved};
+ghost use Rattle.dom_session.specs.GoingOn.{is_question, goes_on, is_unchanged_in};
 ghost use Rattle.dom_session.specs.SessionBounds.{bounds_of};
 ghost use Rattle.dom_session.specs.InUse.{in_use_of, in_use_in};
 ghost use Rattle.dom_session.specs.Neighbours.{links_in, first_child_in, last_child_in, child_in, child_count_in, laid_over};
@@ -20,7 +20,7 @@ ghost use Rattle.dom_attrs.specs.Entries.{attribute_at};
 
 use crate::attributes::has_attribute;
 use crate::dispatch::answered;
-use crate::going_on::{goes_on, goes_on_unobserved};
+use crate::going_on::{goes_on, is_edit_unchanged, is_unchanged};
 use crate::in_use::{self, Counts};
 use crate::neighbours::{self, Neighbours};
 use crate::node_creation::{create_element, create_text, make_nodes};
@@ -131,8 +131,8 @@ impl Session {
             OnErr result (IsAsBefore self.old self.new) }
         ensures unchanged { goes_on (command_view command) ≡ false →
             result ≡ Err OutOfMemory.Refused → self.new ≡ self.old }
-        ensures unobserved { is_all_or_nothing_unobserved (command_view command) ≡ true →
-            self.old.world.observers.nodes ≡ [] → OnErr result (self.new ≡ self.old) }
+        ensures edits { is_unchanged_in self.old.world (command_view command) ≡ true →
+            OnErr result (self.new ≡ self.old) }
         ensures stays_ended { self.old.ended ≡ true → IsErr result }
         ensures bounds { self.new.bounds ≡ self.old.bounds }
     {
@@ -143,14 +143,14 @@ impl Session {
             return Err(OutOfMemory::Refused);
         }
         let stays_open = goes_on(&command);
-        let is_unobserved = goes_on_unobserved(&self.world, &command);
+        let is_unchanged = is_unchanged(&self.world, &command);
         match answered(&mut self.world, self.limits.numbers, self.alloc, command) {
             Ok(reply) => Ok(reply),
             Err(_) => {
                 if stays_open {
                     return Err(OutOfMemory::Refused);
                 }
-                if is_unobserved {
+                if is_unchanged {
                     return Err(OutOfMemory::Refused);
                 }
                 self.ended = true;
@@ -246,7 +246,8 @@ impl Session {
         Ok(reply)
     }
 
-    /// Applies an edit of the tree as `apply` does, with fewer arguments to pass. If nobody observes, it never ends a session.
+    /// Applies an edit of the tree as `apply` does, with fewer arguments to pass. It ends no session if nobody observes, if it takes a node out, or if it
+    /// brings in one node that has no parent.
     #[inline(always)]
     pub fn edit(&mut self, command: Editing) -> Result<Brief, OutOfMemory>
         ensures answers { IfOk result
@@ -260,7 +261,7 @@ impl Session {
         ensures same { result ≡ Err OutOfMemory.Refused → IsAsBefore self.old self.new }
         ensures left { OnErr result (IsLeft self.old self.new) }
         ensures unchanged { result ≡ Err OutOfMemory.Refused → self.new ≡ self.old }
-        ensures unobserved { self.old.world.observers.nodes ≡ [] →
+        ensures edits { is_unchanged_in self.old.world (editing_view command) ≡ true →
             OnErr result (self.new ≡ self.old) }
         ensures stays_ended { self.old.ended ≡ true → IsErr result }
         ensures bounds { self.new.bounds ≡ self.old.bounds }
@@ -268,9 +269,9 @@ impl Session {
         if self.ended {
             return Err(OutOfMemory::Ended);
         }
-        let is_unobserved = self.world.observers.is_idle();
+        let is_unchanged = is_edit_unchanged(&self.world, &command);
         let Ok(reply) = edit_tree(&mut self.world, self.alloc, command) else {
-            if is_unobserved {
+            if is_unchanged {
                 return Err(OutOfMemory::Refused);
             }
             self.ended = true;
