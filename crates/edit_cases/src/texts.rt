@@ -195,12 +195,9 @@ const TEXTS_ARE_JOINED: &[Row] = &[
     Row::Again(Call::Change(6, Change::Normalize)),
     Row::Then(
         When::Always,
-        &[
-            Fact::Children(6, &[8]),
-            Fact::Data(8, "ghij"),
-            Fact::Roots(&[7, 9]),
-        ],
+        &[Fact::Children(6, &[8]), Fact::Roots(&[7, 9])],
     ),
+    Row::Then(When::Granted, &[Fact::Data(8, "ghij")]),
 ];
 
 #[test]
