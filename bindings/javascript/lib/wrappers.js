@@ -34,37 +34,64 @@ const HELD = 64;
 const TABLED = 128;
 
 // ---- A cache of the nodes that were made or found last, by number. It is held until the program waits, and then until the next garbage collection.
+//
+// An entry holds its whole tree, and a collection that has begun before the program waits does not free the cache. So the cache has two tables. When the
+// program waits, and MOST_MADE objects were made since the last time, the newer table replaces the older one, whose trees are then held no longer.
 
 const PLACES = 32768;
 const MASK = PLACES - 1;
+/** After this many new objects the newer table replaces the older one. */
+const MOST_MADE = 8192;
 let recent = null;
-let recentHeld = null;
+let older = null;
+let tables = null;
+let tablesHeld = null;
+/** How many objects were made since then. */
+let madeCount = 0;
 /** The last node that was read ahead of a walk, and how many were read at once. */
 let frontier = null;
 let readAtOnce = 0;
 
 function recentNow() {
-  recent = recentHeld?.deref() ?? null;
-  if (recent === null) {
-    recent = new Array(PLACES);
-    recentHeld = new WeakRef(recent);
+  tables = tablesHeld?.deref() ?? null;
+  if (tables === null) {
+    tables = { recent: null, older: null };
+    tablesHeld = new WeakRef(tables);
   }
-  soon(() => {
-    recent = frontier = null;
-  });
+  tables.recent ??= new Array(PLACES);
+  ({ recent, older } = tables);
+  soon(releaseRecent);
   return recent;
+}
+
+/** Holds the cache weakly from now on, and drops the older table if enough objects were made. */
+function releaseRecent() {
+  if (tables !== null && madeCount >= MOST_MADE) {
+    tables.older = recent;
+    tables.recent = null;
+    madeCount = 0;
+  }
+  recent = older = tables = frontier = null;
 }
 
 /** Returns the state of a number's node if the cache has it, otherwise undefined. */
 export function recall(session, number) {
   const it = (recent ?? recentNow())[number & MASK];
-  return it !== undefined && it.number === number && it.session === session ? it : undefined;
+  return it !== undefined && it.number === number && it.session === session ? it : recallOlder(session, number);
+}
+
+function recallOlder(session, number) {
+  if (older === null) return undefined;
+  const it = older[number & MASK];
+  if (it === undefined || it.number !== number || it.session !== session) return undefined;
+  recent[number & MASK] = it;
+  return it;
 }
 
 const remember = (its) => void ((recent ?? recentNow())[its.number & MASK] = its);
 
 Session.forgetRecent = () => {
-  recent = recentHeld = frontier = null;
+  recent = older = tables = tablesHeld = frontier = null;
 };
 
 const mayHaveChildren = (kind) => kind === ELEMENT || kind === DOCUMENT || kind === FRAGMENT;
@@ -519,6 +546,7 @@ function linked(parent, from, count, isWhole) {
   }
   // (which has both forgotten once the program waits)
   if (recent === null) recentNow();
+  madeCount += count / ROW;
   frontier = last;
   if (isWhole) up(last, parent.number).trail();
   return first;
@@ -566,7 +594,14 @@ export class Wrapper extends Given {
   static {
     isNode = (it) => typeof it === "object" && it !== null && #its in it;
     itsOf = (node) => node.#its;
-    stateOf = (it) => (typeof it === "object" && it !== null && #its in it ? it.#its : null);
+    // (a look-up that fails is rare: asking first whether there is the field takes as long as reading it)
+    stateOf = (it) => {
+      try {
+        return it.#its;
+      } catch {
+        return null;
+      }
+    };
   }
 }
 
@@ -655,6 +690,7 @@ function make(session, number, kind, realm, name = null) {
   if (realm !== session.realm) its.kept = { realm };
   (isOfXML(session, number, kind) ? realm.makers.XMLDocument : makerOf(kind, realm, known)).make(its);
   remember(its);
+  madeCount++;
   return its;
 }
 

@@ -262,6 +262,28 @@ test("600,000 nodes made and dropped leave memory level", async () => {
   assert.ok(levels.at(-1) < 4e6, `${levels}`);
 });
 
+test("trees that were walked go, even if each collection comes while the program runs", async () => {
+  const session = new Session();
+  const { document } = session;
+  const root = document.createElement("ul");
+  for (let at = 0; at < 1000; at++) root.appendChild(document.createElement("li")).append("some text");
+  const walked = () => {
+    const copy = root.cloneNode(true);
+    let count = 0;
+    for (let item = copy.firstChild; item; item = item.nextSibling) count += item.firstChild.length;
+    return count;
+  };
+  const counts = [];
+  for (let round = 0; round < 40; round++) {
+    assert.equal(walked(), 9000);
+    globalThis.gc();
+    await turn();
+    await turn();
+    counts.push(session.inUse().nodes);
+  }
+  assert.ok(Math.max(...counts) < 40000, `${counts}`);
+});
+
 test("sessions that nothing holds are closed", async () => {
   const before = memory.held;
   for (let at = 0; at < 50; at++) {
