@@ -14,6 +14,13 @@ typedef struct {
     size_t length, room;
 } Units;
 
+/* What a parser has called, as bytes; the place of the first doctype, or 0; and whether an element has started. */
+typedef struct {
+    char *at;
+    size_t length, room, doctype;
+    bool has_element;
+} Record;
+
 typedef struct {
     PyObject_HEAD
     Calls *calls;
@@ -28,7 +35,15 @@ typedef struct {
     unsigned label, shape;
     /* The text that is not put in yet, and the value of an attribute or what else a call is handed. */
     Units text, value;
+    /* The calls of a parser whose target this is. */
+    Record record;
 } Builder;
+
+static void record_drop(Record *it)
+{
+    PyMem_Free(it->at);
+    *it = (Record){ NULL, 0, 0, 0, false };
+}
 
 /* ---- UTF-8 as units */
 
@@ -323,6 +338,7 @@ static void builder_dealloc(PyObject *self)
     order_drop(&it->order);
     PyMem_Free(it->text.at);
     PyMem_Free(it->value.at);
+    record_drop(&it->record);
     PyObject_Free(self);
     Py_DECREF(type);
 }

@@ -9,6 +9,7 @@
 #include "reading.h"
 #include "from_xml.h"
 #include "from_html.h"
+#include "from_lxml.h"
 #include "calls.h"
 
 static PyMethodDef members_by_hand[] = {
@@ -61,6 +62,14 @@ static PyMethodDef builder_methods[] = {
     { "add_page", builder_add_page, METH_VARARGS,
         "add_page($self, page, is_exact, /)\n--\n\nAdds the nodes of a page of html5-parser; False where it is to be exact and can't be." },
     { "add_part", builder_add_part, METH_O, "add_part($self, page, /)\n--\n\nAdds the nodes below the root of a page of html5-parser." },
+    { "start", builder_start, METH_VARARGS, "start($self, name, attributes, /)\n--\n\nRecords the start of an element, as lxml's parser calls it." },
+    { "end", builder_end, METH_O, "end($self, name, /)\n--\n\nRecords the end of an element." },
+    { "data", builder_data, METH_O, "data($self, text, /)\n--\n\nRecords a text." },
+    { "comment", builder_comment, METH_O, "comment($self, text, /)\n--\n\nRecords a comment." },
+    { "pi", builder_pi, METH_VARARGS, "pi($self, target, data, /)\n--\n\nRecords an instruction." },
+    { "doctype", builder_doctype, METH_VARARGS, "doctype($self, name, public_id, system_id, /)\n--\n\nRecords a doctype." },
+    { "close", builder_close, METH_NOARGS, "close($self, /)\n--\n\nDoes nothing: lxml's parser calls it at the end." },
+    { "add_record", builder_add_record, METH_NOARGS, "add_record($self, /)\n--\n\nAdds the nodes of the recorded page." },
     { "abandon", builder_abandon, METH_NOARGS, "abandon($self, /)\n--\n\nFrees all open elements." },
     { NULL, NULL, 0, NULL },
 };

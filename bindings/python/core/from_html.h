@@ -1,4 +1,4 @@
-/* HTML by html5-parser or by lxml, whose trees are those of libxml2: they are read where they are, so nothing is linked. */
+/* HTML by html5-parser, whose trees are those of libxml2: they are read where they are, so nothing is linked. */
 #ifndef HUCKLEPORT_FROM_HTML_H
 #define HUCKLEPORT_FROM_HTML_H
 
@@ -42,14 +42,6 @@ typedef struct {
 
 /* Their numbers of types, which are the standard's. */
 enum { THEIR_ELEMENT = 1, THEIR_TEXT = 3, THEIR_CDATA = 4, THEIR_INSTRUCTION = 7, THEIR_COMMENT = 8 };
-
-/* Elements as lxml declares them to other modules (its etreepublic.pxd). The node refers back to its object. */
-typedef struct {
-    PyObject_HEAD
-    PyObject *owner;
-    const Theirs *node;
-    PyObject *tag;
-} TheirElement;
 
 /* The prefix that a name of a namespace has in HTML. */
 static const char *prefix_of(const TheirNamespace *namespace)
@@ -141,30 +133,13 @@ static bool has_comment_first(const TheirDocument *document)
     return node && node->type == THEIR_COMMENT;
 }
 
-/* Whether an object is an element of lxml, and elements have the size that lxml declares. */
-static bool is_of_lxml(PyObject *it)
-{
-    PyObject *module = PyImport_ImportModule("lxml.etree");
-    PyObject *type = module ? PyObject_GetAttrString(module, "_Element") : NULL;
-    PyObject *size = type ? PyObject_GetAttrString(type, "__basicsize__") : NULL;
-    bool is_one = size && PyLong_AsUnsignedLong(size) == sizeof(TheirElement) && PyObject_TypeCheck(it, (PyTypeObject *)type);
-    Py_XDECREF(size);
-    Py_XDECREF(type);
-    Py_XDECREF(module);
-    return is_one;
-}
-
-/* The document that a capsule of html5-parser has, or that an element of lxml is in; or null with an exception. */
+/* The document that a capsule of html5-parser has, or null with an exception. */
 static const TheirDocument *document_in(PyObject *page)
 {
     static const char name[] = "libxml2:xmlDoc";
     if (PyCapsule_IsValid(page, name))
         return PyCapsule_GetPointer(page, name);
-    const Theirs *node = is_of_lxml(page) ? ((TheirElement *)page)->node : NULL;
-    if (node && node->private == page)
-        return (const TheirDocument *)node->document;
-    if (!PyErr_Occurred())
-        PyErr_SetString(PyExc_TypeError, "expected a page of html5-parser or an element of lxml");
+    PyErr_SetString(PyExc_TypeError, "expected a page of html5-parser");
     return NULL;
 }
 

@@ -15,16 +15,16 @@ from .texts import well_formed
 
 
 def parse(document: Document, source: Union[str, bytes]) -> None:
-    """Parses a page of HTML into a document by lxml's own parser, without its default doctype. Inserts nothing if the page has no element."""
+    """Parses a page of HTML into a document by lxml's own parser, which makes no tree of its own. Inserts nothing if the page has no element."""
     etree: Any = import_module("lxml.etree")
     data, encoding = (well_formed(source).encode(), "utf-8") if isinstance(source, str) else (source, None)
-    parser = etree.HTMLParser(encoding=encoding, huge_tree=True, collect_ids=False, default_doctype=False)
+    builder = Builder(document._calls, document.number, document.number, True)
     try:
-        root = etree.fromstring(data, parser) if data.strip() else None
+        if data.strip():
+            etree.fromstring(data, etree.HTMLParser(target=builder, encoding=encoding, huge_tree=True))
     except etree.XMLSyntaxError as fault:
         raise Malformed(None, "parse", str(fault)) from None
-    if root is not None:
-        Builder(document._calls, document.number, document.number, True).add_page(root, False)
+    builder.add_record()
 
 
 def _qualified(name: str, prefixes: Dict[str, Optional[str]]) -> str:

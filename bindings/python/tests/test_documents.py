@@ -1,5 +1,6 @@
 """Documents in and out: a parsed tree has the nodes of each parser's own tree, and a written one gives the same tree again."""
 import os
+import random
 import subprocess
 import sys
 import tempfile
@@ -129,9 +130,34 @@ class ByHtml5Parser(Parsed, unittest.TestCase):
         self.assertEqual(dict(document.get_elements_by_tag_name("svg")[0].attributes), {"viewBox": "a", "xlink:href": "b", "xml:lang": "c"})
 
 
+# Parts of pages that are put together at random.
+MARKUP = [
+    *("<p>", "</p>", "<b>", "</b>", "<i a=1 a=2>", "</i>", "<br>", "<ul>", "<li>", "</ul>", "<table>", "<tr>", "<td>", "</table>", "x", " y ", "\n", "&amp;", "&eacute;"),
+    *("<!-- c -->", "<?pi x>", "<!doctype html>", "<html lang=en>", "<body c>", "</body>", "<head>", "<title>", "</title>", "<script>a<b</script>", "<o:p q:r=s>", "</o:p>"),
+    *("<select>", "<option selected>", "<", ">", "&", "&#0;", "&#x1F600;", "<![CDATA[z]]>", "</", "<a href='u", "'>", "<frameset>", "<svg>", "</div>", "<meta charset=utf-8>"),
+]
+
+
+def bare(rows):
+    """Rows without the prefixes of elements, and without the value of an attribute that is its name: libxml2 drops the one and adds the other."""
+    found = []
+    for depth, kind, name, pairs, data in rows:
+        if kind == 1:
+            name, pairs = name.rpartition(":")[2], tuple((it, "" if value == it else value) for it, value in pairs)
+        found.append((depth, kind, name, pairs, data))
+    return found
+
+
+def _below(node):
+    for it in node.child_nodes:
+        yield it
+        yield from _below(it)
+
+
 @LXML
 class ByLxml(unittest.TestCase):
-    """Pages by lxml's own parser, which have the tree that lxml has of them."""
+    """Pages by lxml's own parser, which have the tree that lxml has of them. Only the names of elements keep their prefixes, and attributes without a
+    value are empty, as the HTML Standard says."""
 
     PAGES = {
         **pages.PAGES,
@@ -150,7 +176,7 @@ class ByLxml(unittest.TestCase):
                 with self.subTest(name, source=type(source)):
                     root = etree.fromstring(source, parser)
                     due = [] if root is None else joined(of_lxml(root.getroottree()))
-                    self.assertEqual(ours(h.html.parse(source, parser="lxml")), due)
+                    self.assertEqual(bare(ours(h.html.parse(source, parser="lxml"))), bare(due))
 
     def test_what_is_there(self):
         document = h.html.parse("<!doctype html><p>a\ud800b<!--c--><br title='&eacute;' hidden>", parser="lxml")
@@ -158,6 +184,44 @@ class ByLxml(unittest.TestCase):
         self.assertEqual(h.html.parse("<p>x", parser="lxml").child_nodes[0].node_name, "html")
         for empty in ("", " ", "<!-- a -->", b""):
             self.assertEqual(h.html.parse(empty, parser="lxml").child_nodes, [])
+
+    def test_by_the_standard(self):
+        document = h.html.parse("<input disabled value=''><o:p q:r=s>", parser="lxml")
+        self.assertEqual(h.html.serialize(document.body, True), '<input disabled="" value=""><o:p q:r="s"></o:p>')
+
+    def test_two_roots(self):
+        """Nodes behind the end of the document's element go into it, and the order of the nodes is right."""
+        for ahead in ("", "<!-- a -->", "<!doctype html>"):
+            document = h.html.parse(f"{ahead}<html><body><b>x</b></body></html> <!-- z --> y", parser="lxml")
+            root = document.document_element
+            self.assertEqual(h.html.serialize(root), "<html><body><b>x</b></body><html><p> y</p></html></html>")
+            self.assertEqual(document.last_child.data, " z ")
+            self.assertEqual([it.number for it in document.descendants()], [it.number for it in _below(document)])
+            self.assertEqual([it.text for it in document.descendants(h.Element)], [None, None, "x", None, " y"])
+
+    def test_random_pages(self):
+        """Markup at random has the tree that lxml has of it, if that has one root."""
+        from lxml import etree
+
+        chance, parser = random.Random(7), etree.HTMLParser(huge_tree=True, default_doctype=False)
+        for _ in range(300):
+            text = "".join(chance.choices(MARKUP, k=chance.randrange(1, 30)))
+            root = etree.fromstring(text, parser) if text.strip() else None
+            if root is None or len([it for it in (*root.itersiblings(preceding=True), *root.itersiblings()) if isinstance(it.tag, str)]):
+                continue
+            with self.subTest(text):
+                self.assertEqual(bare(ours(h.html.parse(text, parser="lxml"))), bare(joined(of_lxml(root.getroottree()))))
+
+    def test_target(self):
+        document = h.Session().document
+        builder = Builder(document._calls, document.number, document.number, True)
+        with self.assertRaisesRegex(h.BadType, "a dict is due, and not list"):
+            builder.start("a", [1])
+        with self.assertRaises(TypeError):
+            builder.data(1)
+        builder.end("b")
+        self.assertIsNone(builder.add_record())
+        self.assertEqual(document.child_nodes, [])
 
     def test_bytes(self):
         raw = "<meta charset=iso-8859-1><p>\u00e9".encode("latin-1")
@@ -177,11 +241,11 @@ class ByLxml(unittest.TestCase):
         self.assertEqual(document.body.text_content, "one")
 
     def test_other_objects(self):
-        """The core reads no object that is no element of lxml, nor one whose node has another object."""
+        """The core reads no object that is no page of html5-parser."""
         from lxml import etree
 
         document = h.Session().document
-        for other in (object(), None, "a", etree.fromstring("<a/>").getroottree(), etree._Element.__new__(etree._Element)):
+        for other in (object(), None, "a", etree.fromstring("<a/>")):
             with self.assertRaises(TypeError):
                 Builder(document._calls, document.number, document.number, True).add_page(other, False)
         self.assertEqual(document.child_nodes, [])

@@ -12,7 +12,7 @@ from huckleport._calls import core
 STABLE = set(
     """
     PyArg_ParseTuple PyBool_FromLong PyBytes_AsStringAndSize PyBytes_FromStringAndSize PyCapsule_GetPointer PyCapsule_Import PyCapsule_IsValid PyCapsule_New PyDescr_NewGetSet
-    PyDescr_NewMethod PyDict_DelItem PyDict_GetItem PyDict_GetItemString PyDict_New PyDict_SetItem PyDict_Size PyErr_Clear
+    PyDescr_NewMethod PyDict_DelItem PyDict_GetItem PyDict_GetItemString PyDict_New PyDict_Next PyDict_SetItem PyDict_Size PyErr_Clear
     PyErr_ExceptionMatches PyErr_Fetch PyErr_Format PyErr_NoMemory PyErr_NormalizeException PyErr_Occurred PyErr_SetObject PyErr_SetString
     PyExc_AttributeError PyExc_Exception PyExc_ImportError PyExc_KeyError PyExc_OverflowError PyExc_RuntimeError PyExc_TypeError PyExc_ValueError
     PyEval_RestoreThread PyEval_SaveThread PyExc_MemoryError PyUnicode_CompareWithASCIIString PyUnicode_FromFormat
@@ -20,7 +20,7 @@ STABLE = set(
     PyList_Size PyLong_AsUnsignedLong PyLong_AsUnsignedLongLong PyLong_FromLong PyLong_FromSize_t PyLong_FromUnsignedLong PyLong_FromUnsignedLongLong PyMem_Free
     PyMem_Malloc PyMem_Realloc PyModuleDef_Init PyModule_AddObject PyModule_GetState PyNumber_Index PyObject_CallFunction
     PyObject_CallFunctionObjArgs PyObject_CallMethodObjArgs PyObject_Free PyObject_GC_Del PyObject_GC_UnTrack PyObject_GetAttr
-    PyObject_GetAttrString PyObject_GetIter PyObject_IsSubclass PyObject_IsTrue PyObject_SelfIter PyObject_SetAttrString PySequence_GetItem
+    PyObject_GetAttrString PyObject_GetIter PyObject_IsSubclass PyObject_IsTrue PyObject_SelfIter PyObject_SetAttrString PyObject_Size PySequence_GetItem
     PySequence_List PySequence_Size PySet_Add PySet_New PyStructSequence_New PyStructSequence_NewType PyStructSequence_SetItem
     PyTuple_GetItem PyTuple_GetSlice PyTuple_New PyTuple_Pack PyTuple_SetItem PyTuple_Size PyTuple_Type PyType_FromSpec PyType_GenericAlloc
     PyType_GetFlags PyType_GetSlot PyType_IsSubtype PyType_Type PyUnicode_AsUCS4 PyUnicode_AsUTF8String PyUnicode_DecodeLatin1 PyUnicode_DecodeUTF16
