@@ -825,6 +825,12 @@ uint8_t hp_iterator(hp_session *session, uint32_t iterator, hp_iterator_at *plac
  * @return HP_OK, or why it was refused. */
 uint8_t hp_next_node(hp_session *session, uint32_t iterator, uint32_t *node);
 
+/** Moves an iterator on as often as an array has room, as hp_next_node in turn. It writes the nodes, and how many:
+ * fewer than there is room for if a step found none, or was refused; then the status is that step's. The last
+ * answer is the last step's. The rest of the array stays. It takes no memory. DOM Standard: NodeIterator.nextNode.
+ * @return HP_OK, or why it was refused. */
+uint8_t hp_next_nodes_into(hp_session *session, uint32_t iterator, uint32_t *nodes, size_t nodes_capacity, size_t *count);
+
 /** Moves an iterator back, and writes the node, or HP_NONE. DOM Standard: NodeIterator.previousNode.
  * @return HP_OK, or why it was refused. */
 uint8_t hp_previous_node(hp_session *session, uint32_t iterator, uint32_t *node);
@@ -842,6 +848,11 @@ uint8_t hp_set_current(hp_session *session, uint32_t walker, uint32_t node);
  * TreeWalker.
  * @return HP_OK, or why it was refused; also HP_BAD_CHOICE. */
 uint8_t hp_walk(hp_session *session, uint32_t walker, uint8_t direction, uint32_t *node);
+
+/** Makes a walker's move as often as an array has room, as hp_walk in turn. It writes the nodes, and how many, and
+ * answers as hp_next_nodes_into does. DOM Standard: TreeWalker.
+ * @return HP_OK, or why it was refused; also HP_BAD_CHOICE. */
+uint8_t hp_walk_into(hp_session *session, uint32_t walker, uint8_t direction, uint32_t *nodes, size_t nodes_capacity, size_t *count);
 
 /** Releases an iterator.
  * @return HP_OK, or why it was refused. */
@@ -1184,6 +1195,22 @@ static inline uint8_t hp_create_walker_mended(hp_session *session, uint32_t root
     return hp_create_walker(session, root, show, names ? names : (const uint8_t *)hp_nothing, names_length, lengths ? lengths : (const uint32_t *)hp_nothing, lengths_length, verdicts ? verdicts : (const uint8_t *)hp_nothing, verdicts_length, walker);
 }
 #define hp_create_walker(...) hp_create_walker_mended(__VA_ARGS__)
+
+static inline uint8_t hp_next_nodes_into_mended(hp_session *session, uint32_t iterator, uint32_t *nodes, size_t nodes_capacity, size_t *count)
+{
+    if ((!nodes && nodes_capacity))
+        return HP_BAD_LENGTHS;
+    return hp_next_nodes_into(session, iterator, nodes ? nodes : (uint32_t *)hp_nothing, nodes_capacity, count);
+}
+#define hp_next_nodes_into(...) hp_next_nodes_into_mended(__VA_ARGS__)
+
+static inline uint8_t hp_walk_into_mended(hp_session *session, uint32_t walker, uint8_t direction, uint32_t *nodes, size_t nodes_capacity, size_t *count)
+{
+    if ((!nodes && nodes_capacity))
+        return HP_BAD_LENGTHS;
+    return hp_walk_into(session, walker, direction, nodes ? nodes : (uint32_t *)hp_nothing, nodes_capacity, count);
+}
+#define hp_walk_into(...) hp_walk_into_mended(__VA_ARGS__)
 
 static inline uint8_t hp_observe_mended(hp_session *session, uint32_t observer, uint32_t node, const hp_options *options, const uint8_t *names, size_t names_length, const uint32_t *lengths, size_t lengths_length)
 {

@@ -116,6 +116,37 @@ static uint64_t walker(uint32_t count)
     return seen;
 }
 
+/* The same in calls for a thousand steps each. */
+static uint64_t iterator_into(uint32_t count)
+{
+    static uint32_t nodes[1000];
+    uint32_t made;
+    uint64_t seen = 0;
+    size_t found = 1000;
+    tree(count);
+    must(hp_create_iterator(&session, 1, HP_NONE, NULL, 0, NULL, 0, NULL, 0, &made));
+    begin();
+    for (; found == 1000; seen += found)
+        must(hp_next_nodes_into(&session, made, nodes, 1000, &found));
+    end();
+    return seen;
+}
+
+static uint64_t walker_into(uint32_t count)
+{
+    static uint32_t nodes[1000];
+    uint32_t made;
+    uint64_t seen = 0;
+    size_t found = 1000;
+    tree(count);
+    must(hp_create_walker(&session, 1, HP_NONE, NULL, 0, NULL, 0, NULL, 0, &made));
+    begin();
+    for (; found == 1000; seen += found)
+        must(hp_walk_into(&session, made, 6, nodes, 1000, &found));
+    end();
+    return seen;
+}
+
 /* Copies a tree, in rows of a thousand nodes. */
 static uint64_t subtree(uint32_t count)
 {
@@ -215,6 +246,8 @@ static const struct scene scenes[] = {
     { "moving", moving },
     { "iterator", iterator },
     { "walker", walker },
+    { "iterator-into", iterator_into },
+    { "walker-into", walker_into },
     { "subtree", subtree },
     { "beside-1000-ranges", beside_ranges },
     { "within-1000-ranges", within_ranges },

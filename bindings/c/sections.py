@@ -43,6 +43,8 @@ OTHER = {
     "walker": "TreeWalker",
     "set_current": "TreeWalker.currentNode",
     "walk": "TreeWalker",
+    "next_nodes_into": "NodeIterator.nextNode",
+    "walk_into": "TreeWalker",
     "create_observer": "MutationObserver()",
     "notify": "notify mutation observers",
     "take_pending": "notify mutation observers",

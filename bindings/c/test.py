@@ -6,6 +6,7 @@
 - each call with a closed session, and wrong arguments;
 - the neighbours and the contents of a node, whose reading takes no memory, and a hundred thousand children removed one by one;
 - the nodes of a subtree, copied with any room and compared with single calls, also in a session that has ended;
+- steps of iterators and walkers in turn, with any room and filter, compared with single calls, and refused in a session that has ended;
 - the number of objects of each kind, as they are made and released, counted without taking memory;
 - released objects, which no call finds and which keep no tree, and the memory after a million of each kind;
 - each allocation refused in turn over all dialogues, and over one of the calls that copy names and texts;
@@ -198,6 +199,9 @@ class Tests:
     def subtree(self):
         self.alone("subtree", link=WRAPPED)
 
+    def steps(self):
+        self.alone("steps", link=WRAPPED)
+
     def counted(self):
         self.alone("counted", link=WRAPPED)
 
@@ -278,7 +282,7 @@ class Tests:
         return 1 if self.faults else 0
 
 
-PARTS = ("header", "lines", "typed", "closed", "misuse", "nearby", "subtree", "counted", "released", "refused", "goes_on", "ended", "threads", "stacks", "example", "loading", "page")
+PARTS = ("header", "lines", "typed", "closed", "misuse", "nearby", "subtree", "steps", "counted", "released", "refused", "goes_on", "ended", "threads", "stacks", "example", "loading", "page")
 
 
 def main():

@@ -1,7 +1,8 @@
 /* Sessions that go on after an allocation was refused. Each allocation of each question, of each call that makes an object and of a notification is
  * refused in turn, over a document of some hundred nodes. The call then says that it was refused memory, and its out pointers are as they were. After
  * that the session answers two hundred further lines as one that was never asked. The same holds of a paste into an observed text, if its data cannot
- * grow, and of each edit in a session that nobody observes. Linked with --wrap for malloc, realloc and free. */
+ * grow, and of each edit in a session that nobody observes. It also holds of observed edits of data and attributes, removals, and insertions of one node
+ * that has no parent. Linked with --wrap for malloc, realloc and free. */
 #include "refusing.h"
 #include "wanting.h"
 #include <string.h>
@@ -21,7 +22,8 @@ static void build_for(bool is_observed)
 {
     hp_options options = HP_OPTIONS_INIT;
     uint32_t made = 0, paragraph;
-    options.child_list = options.subtree = options.attributes = 1;
+    options.child_list = options.subtree = options.attributes = options.character_data = 1;
+    options.attribute_old_value = options.character_data_old_value = 1;
     int said = hp_open(&session, 100000, 1000);
     said |= hp_create_element(&session, 0, hp_name("article"), &made) | hp_append_child(&session, 0, made);
     for (int at = 0; at < PARAGRAPHS; at++) {
@@ -132,23 +134,23 @@ static uint8_t make(int number, uint32_t *made)
     }
 }
 
-/* The edits, of nodes whose session nobody observes. */
-enum { EDITS = 18 };
+/* The edits. Each of the first SINGLE makes at most one record. */
+enum { EDITS = 18, SINGLE = 12 };
 
 static uint8_t edit_tree(int number)
 {
     switch (number) {
-    case 0: return hp_append_child(&session, 1, APART);
-    case 1: return hp_append_child(&session, APART, 4);
-    case 2: return hp_insert_before(&session, 1, APART, 100);
-    case 3: return hp_insert_before(&session, 1, 6, 100);
-    case 4: return hp_append_child(&session, 1, FRAGMENT);
-    case 5: return hp_remove(&session, 6);
-    case 6: return hp_remove_child(&session, 1, 6);
-    case 7: return hp_replace_child(&session, 1, APART, 6);
-    case 8: return hp_replace_child(&session, 1, FRAGMENT, 6);
-    case 9: return hp_replace_children(&session, 1, FRAGMENT);
-    default: return hp_adopt_node(&session, 0, 6);
+    case 7: return hp_append_child(&session, 1, APART);
+    case 8: return hp_insert_before(&session, 1, APART, 100);
+    case 9: return hp_remove(&session, 6);
+    case 10: return hp_remove_child(&session, 1, 6);
+    case 11: return hp_adopt_node(&session, 0, 6);
+    case 12: return hp_append_child(&session, APART, 4);
+    case 13: return hp_insert_before(&session, 1, 6, 100);
+    case 14: return hp_append_child(&session, 1, FRAGMENT);
+    case 15: return hp_replace_child(&session, 1, APART, 6);
+    case 16: return hp_replace_child(&session, 1, FRAGMENT, 6);
+    default: return hp_replace_children(&session, 1, FRAGMENT);
     }
 }
 
@@ -156,30 +158,35 @@ static uint8_t edit(int number)
 {
     uint8_t is_there;
     switch (number) {
-    case 11: return hp_set_data(&session, TEXT, hp_text_literal("a text that is longer than the one that was there before it"));
-    case 12: return hp_append_data(&session, TEXT, hp_text_literal(", and more of it than there was room for"));
-    case 13: return hp_insert_data(&session, TEXT, 4, hp_text_literal(", and more of it than there was room for"));
-    case 14: return hp_replace_data(&session, TEXT, 4, 2, hp_text_literal(", and more of it than there was room for"));
-    case 15: return hp_set_attribute(&session, 2, hp_name("title"), hp_text_literal("long"));
-    case 16: return hp_set_attribute(&session, 2, hp_name("language"), hp_text_literal("another"));
-    case 17: return hp_toggle_attribute(&session, 2, hp_name("hidden"), 2, &is_there);
+    case 0: return hp_set_data(&session, TEXT, hp_text_literal("a text that is longer than the one that was there before it"));
+    case 1: return hp_append_data(&session, TEXT, hp_text_literal(", and more of it than there was room for"));
+    case 2: return hp_insert_data(&session, TEXT, 4, hp_text_literal(", and more of it than there was room for"));
+    case 3: return hp_replace_data(&session, TEXT, 4, 2, hp_text_literal(", and more of it than there was room for"));
+    case 4: return hp_set_attribute(&session, 2, hp_name("title"), hp_text_literal("long"));
+    case 5: return hp_set_attribute(&session, 2, hp_name("language"), hp_text_literal("another"));
+    case 6: return hp_toggle_attribute(&session, 2, hp_name("hidden"), 2, &is_there);
     default: return edit_tree(number);
     }
 }
 
-static uint8_t call(int number, uint32_t *made)
+/* The kinds of calls: questions and calls that make an object, edits that nobody observes, and observed edits. */
+enum kind { CALL, UNOBSERVED, OBSERVED };
+
+static uint8_t call(enum kind kind, int number, uint32_t *made)
 {
+    if (kind != CALL)
+        return edit(number);
     return number < QUESTIONS ? ask(number) : make(number - QUESTIONS, made);
 }
 
-/* One call, or one edit that nobody observes, with one allocation refused: whether the refusal was met. */
-static bool once(int number, bool is_edit, unsigned long at, unsigned long *refusals)
+/* One call with one allocation refused: whether the refusal was met. */
+static bool once(enum kind kind, int number, unsigned long at, unsigned long *refusals)
 {
     uint32_t made = NONE;
     hp_counts in_use_now;
-    build_for(!is_edit);
+    build_for(kind != UNOBSERVED);
     refuse(at);
-    uint8_t status = is_edit ? edit(number) : call(number, &made);
+    uint8_t status = call(kind, number, &made);
     bool was_met = asked >= at;
     counts = false;
     WANT(status != HP_ENDED && (status == HP_OUT_OF_MEMORY ? was_met : true));
@@ -257,25 +264,27 @@ static void paste(void)
 }
 
 /* All calls of a kind, each with each of its allocations refused. */
-static void each(int calls, bool is_edit, unsigned long *refusals)
+static void each(enum kind kind, int calls, unsigned long *refusals)
 {
-    build_for(!is_edit);
+    static const char *const names[] = { "call", "edit that nobody observes", "observed edit" };
+    build_for(kind != UNOBSERVED);
     further(&due);
     WANT(hp_close(&session) == HP_OK);
     for (int number = 0; number < calls; number++) {
-        for (unsigned long at = 1; once(number, is_edit, at, refusals) && !faults; at++)
+        for (unsigned long at = 1; once(kind, number, at, refusals) && !faults; at++)
             continue;
         if (faults)
-            printf("in %s %d\n", is_edit ? "edit" : "call", number);
+            printf("in %s %d\n", names[kind], number);
     }
 }
 
 int main(void)
 {
     unsigned long refusals = 0;
-    each(CALLS, false, &refusals);
-    each(EDITS, true, &refusals);
+    each(CALL, CALLS, &refusals);
+    each(UNOBSERVED, EDITS, &refusals);
+    each(OBSERVED, SINGLE, &refusals);
     paste();
-    printf("%d calls and edits, %lu refusals after which a session went on\n", CALLS + EDITS, refusals);
+    printf("%d calls and edits, %lu refusals after which a session went on\n", CALLS + EDITS + SINGLE, refusals);
     return faults || refusals < CALLS;
 }

@@ -13,7 +13,7 @@ from huckleport import _signatures
 from huckleport._calls import Calls
 
 # What opens and closes a session or asks of none, and what fills an array, as the package's own calls do.
-NO_METHODS = {"open", "close", "version", "numbers_into", "records_into", "children_into", "subtree_into", "attribute_at"}
+NO_METHODS = {"open", "close", "version", "numbers_into", "records_into", "children_into", "subtree_into", "next_nodes_into", "walk_into", "attribute_at"}
 STUB = os.path.join(os.path.dirname(h.__file__), "_core.pyi")
 
 

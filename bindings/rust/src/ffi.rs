@@ -325,10 +325,12 @@ extern "C" {
     fn hp_create_walker(session: *mut hp_session, root: u32, show: u32, names: *const u8, names_length: usize, lengths: *const u32, lengths_length: usize, verdicts: *const u8, verdicts_length: usize, walker: *mut u32) -> u8;
     fn hp_iterator(session: *mut hp_session, iterator: u32, place: *mut hp_iterator_at) -> u8;
     fn hp_next_node(session: *mut hp_session, iterator: u32, node: *mut u32) -> u8;
+    fn hp_next_nodes_into(session: *mut hp_session, iterator: u32, nodes: *mut u32, nodes_capacity: usize, count: *mut usize) -> u8;
     fn hp_previous_node(session: *mut hp_session, iterator: u32, node: *mut u32) -> u8;
     fn hp_walker(session: *mut hp_session, walker: u32, place: *mut hp_walker_at) -> u8;
     fn hp_set_current(session: *mut hp_session, walker: u32, node: u32) -> u8;
     fn hp_walk(session: *mut hp_session, walker: u32, direction: u8, node: *mut u32) -> u8;
+    fn hp_walk_into(session: *mut hp_session, walker: u32, direction: u8, nodes: *mut u32, nodes_capacity: usize, count: *mut usize) -> u8;
     fn hp_release_iterator(session: *mut hp_session, iterator: u32) -> u8;
     fn hp_release_walker(session: *mut hp_session, walker: u32) -> u8;
     fn hp_create_observer(session: *mut hp_session, observer: *mut u32) -> u8;
@@ -1143,6 +1145,13 @@ impl Handle {
         if status == HP_OK { Ok(out) } else { Err(status) }
     }
 
+    pub(crate) fn next_nodes_into(&mut self, iterator: u32, nodes: &mut [u32]) -> Result<usize, u8> {
+        let mut out = 0;
+        // SAFETY: as at the head of the file.
+        let status = read(unsafe { hp_next_nodes_into(self.session.get(), iterator, nodes.as_mut_ptr(), nodes.len(), &mut out) });
+        if status == HP_OK { Ok(out) } else { Err(status) }
+    }
+
     pub(crate) fn previous_node(&mut self, iterator: u32) -> Result<u32, u8> {
         let mut out = 0;
         // SAFETY: as at the head of the file.
@@ -1167,6 +1176,13 @@ impl Handle {
         let mut out = 0;
         // SAFETY: as at the head of the file.
         let status = read(unsafe { hp_walk(self.session.get(), walker, direction, &mut out) });
+        if status == HP_OK { Ok(out) } else { Err(status) }
+    }
+
+    pub(crate) fn walk_into(&mut self, walker: u32, direction: u8, nodes: &mut [u32]) -> Result<usize, u8> {
+        let mut out = 0;
+        // SAFETY: as at the head of the file.
+        let status = read(unsafe { hp_walk_into(self.session.get(), walker, direction, nodes.as_mut_ptr(), nodes.len(), &mut out) });
         if status == HP_OK { Ok(out) } else { Err(status) }
     }
 

@@ -7,3 +7,4 @@ pub mod Subtrees
 pub mod FaultLemmas
 pub mod AsksLemmas
 pub mod Spared
+pub mod StepsInTurnLemmas

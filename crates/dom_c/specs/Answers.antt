@@ -1,11 +1,11 @@
 -- What a call does: its status, the reply that is kept, and the session afterwards.
-use Rattle.std.specs.Prelude.{◌≡◌, ◌⊎◌, ◌==◌, ◌&&◌, ◌||◌, ℕ, Bool, true, false, length, Option, Some, None, option_map, Result, Ok, Err}
+use Rattle.std.specs.Prelude.{◌≡◌, ◌⊎◌, ◌||◌, ℕ, Bool, true, false, Option, Some, None, option_map, Result, Ok, Err}
 use Rattle.dom_model.specs.Worlds.World.{World}
 use Rattle.dom_model.specs.Commands.Command.{Command}
 use Rattle.dom_model.specs.Commands.Reply as model
 use Rattle.dom_model.specs.Commands.Answer.{Step, answer}
 use Rattle.dom_commands.specs.declared.reply.Reply.{Reply}
-use Rattle.dom_session.specs.Sessions.{SessionView, StandsFor, IsAsBefore, held_world, goes_on, is_all_or_nothing_unobserved, reply_view}
+use Rattle.dom_session.specs.Sessions.{SessionView, StandsFor, IsAsBefore, held_world, goes_on, is_unchanged_in, reply_view}
 use Rattle.dom_c.specs.Statuses.{status_of, status_at_end, out_of_memory, closed_status}
 use Rattle.dom_c.specs.declared.handle_state.HandleState.{HandleState}
 use Rattle.dom_c.specs.declared.handle.Handle.{Handle}
@@ -36,13 +36,9 @@ abbrev pub Ends : Bool → Result (World → Step) ℕ → HandleState → Handl
 Ends true step old new status = status ≡ out_of_memory
 Ends false step old new status = (old.ended ≡ false) × (Goes step (option_map reply_view new.reply) old new status ⊎ IsSpared old new status)
 
--- whether nobody observes in a session
-abbrev pub is_unobserved : SessionView → Bool
-is_unobserved s = length s.world.observers.nodes == 0
-
 -- whether an open session goes on, also if memory is refused
 abbrev pub leaves_open : SessionView → Result Command ℕ → Bool
-leaves_open s (Ok c) = goes_on c || (is_unobserved s && is_all_or_nothing_unobserved c)
+leaves_open s (Ok c) = goes_on c || is_unchanged_in s.world c
 leaves_open s (Err malformed) = true
 
 -- the step of a command, or the status of arguments that make none

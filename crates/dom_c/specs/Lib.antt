@@ -14,5 +14,6 @@ pub mod Records
 pub mod Neighbours
 pub mod BorrowedData
 pub mod Subtree
+pub mod StepsInTurn
 pub mod Counts
 pub mod Version

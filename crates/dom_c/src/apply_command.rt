@@ -33,9 +33,9 @@ impl HandleState {
         status
     }
 
-    // Stores a reply with a small answer, and returns its status.
+    /// Stores a reply with a small answer, and returns its status.
     #[inline(always)]
-    fn note(&mut self, reply: Brief) -> u8
+    pub(crate) fn note(&mut self, reply: Brief) -> u8
         ensures kept { self.new ≡ with_reply self.old (reply_of reply) }
         ensures status { result ≡ status_of (reply_view (reply_of reply)) }
     {
@@ -43,8 +43,8 @@ impl HandleState {
         status_of_brief(reply)
     }
 
-    // Notes that the session has ended for want of memory.
-    fn end(&mut self) -> u8
+    /// Notes that the session has ended, out of memory.
+    pub(crate) fn end(&mut self) -> u8
         ensures kept { self.new ≡ at_end self.old }
         ensures status { result ≡ out_of_memory }
     {

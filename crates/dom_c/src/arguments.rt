@@ -1,6 +1,7 @@
 //! Reading the arguments of C.
 
-ghost use Rattle.std.specs.Prelude.{◌≡◌, Ok, string_bytes};
+ghost use Rattle.std.specs.Prelude.{◌≡◌, Ok, Err, OnErr, string_bytes};
+ghost use Rattle.dom_c.specs.Statuses.{bad_choice};
 ghost use Rattle.dom_c.specs.Arguments.{ReadsArgument, utf8_name, number_or_none, choice_in, move_of_number};
 
 use crate::argument_fault::ArgumentFault;
@@ -65,7 +66,8 @@ pub(crate) fn choice_of(number: u8) -> Result<Option<bool>, ArgumentFault>
 
 /// Returns the move of a walker.
 pub(crate) fn move_of(number: u8) -> Result<Move, ArgumentFault>
-    ensures { ReadsArgument (λ direction. direction) result (move_of_number number) }
+    ensures read { ReadsArgument (λ direction. direction) result (move_of_number number) }
+    ensures fault { OnErr result (move_of_number number ≡ Err bad_choice) }
 {
     match number {
         0 => Ok(Move::ParentNode),

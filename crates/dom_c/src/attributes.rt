@@ -43,15 +43,6 @@ pub extern "C" fn hp_set_attribute(
     handle.take(read_set_attribute(alloc, element, name, value))
 }
 
-// Reads the arguments of `hp_get_attribute`.
-fn read_get_attribute(alloc: Global, element: u32, name: &[u8]) -> Result<Command, ArgumentFault>
-    ensures { ReadsArgument command_view result
-        (then_make (utf8_name name.now) (λ name. Ok (GetAttribute element name))) }
-{
-    let name = name_of(alloc, name)?;
-    Ok(Command::Attributes(Attributes::GetAttribute(NodeId::new(element), name)))
-}
-
 /// Finds the value of an attribute: `hp_text` reads the answer, and has none if it is null.
 #[unsafe(no_mangle)]
 pub extern "C" fn hp_get_attribute(
@@ -63,7 +54,10 @@ pub extern "C" fn hp_get_attribute(
     ensures { Answers handle.old handle.new
         (then_make (utf8_name name.now) (λ name. Ok (GetAttribute element name))) result }
 {
-    handle.take(read_get_attribute(alloc, element, name))
+    handle.take(name_of(alloc, name).map(|name| Command::Attributes(Attributes::GetAttribute(
+        NodeId::new(element),
+        name,
+    ))))
 }
 
 /// Writes whether there is an attribute of that name. It takes no memory, and a session that has ended answers with `HP_ENDED`.
@@ -81,15 +75,6 @@ pub extern "C" fn hp_has_attribute(
     handle.has_attribute(NodeId::new(element), name, is_there)
 }
 
-// Reads the arguments of `hp_remove_attribute`.
-fn read_remove_attribute(alloc: Global, element: u32, name: &[u8]) -> Result<Command, ArgumentFault>
-    ensures { ReadsArgument command_view result
-        (then_make (utf8_name name.now) (λ name. Ok (RemoveAttribute element name))) }
-{
-    let name = name_of(alloc, name)?;
-    Ok(Command::Attributes(Attributes::RemoveAttribute(NodeId::new(element), name)))
-}
-
 /// Removes an attribute.
 #[unsafe(no_mangle)]
 pub extern "C" fn hp_remove_attribute(
@@ -101,7 +86,10 @@ pub extern "C" fn hp_remove_attribute(
     ensures { Answers handle.old handle.new
         (then_make (utf8_name name.now) (λ name. Ok (RemoveAttribute element name))) result }
 {
-    handle.take(read_remove_attribute(alloc, element, name))
+    handle.take(name_of(alloc, name).map(|name| Command::Attributes(Attributes::RemoveAttribute(
+        NodeId::new(element),
+        name,
+    ))))
 }
 
 // Reads the arguments of `hp_toggle_attribute`.

@@ -2,32 +2,13 @@
 //! has ended still lends, with `HP_ENDED`.
 
 ghost use Rattle.std.specs.Prelude.{◌≡◌};
-ghost use Rattle.dom_model.specs.Worlds.World.{World};
-ghost use Rattle.dom_session.specs.BorrowedData.{lent_as};
-ghost use Rattle.dom_session.specs.Sessions.{StandsFor, held_world};
 ghost use Rattle.dom_c.specs.BorrowedData.{LendsForest, name_out, data_out, attribute_name_out, attribute_value_out};
 
 use crate::borrowed_text::{Bytes, Text};
 use crate::handle::Handle;
-use crate::handle_state::HandleState;
 use crate::labels::name_part;
 use crate::status::{HP_CLOSED, HP_NOT_THERE, status_of_own};
-use dom_session::{NodeId, OwnError};
-
-impl HandleState {
-    // Borrows a part of a node's name.
-    fn name_of(&self, node: u32, part: u8) -> Result<Option<&[u8]>, OwnError>
-        ensures shown { (w : World) → StandsFor self.now.session w →
-            lent_as (λ name. name.now) result ≡ name_out node part w.forest }
-        ensures held { lent_as (λ name. name.now) result
-            ≡ name_out node part (held_world self.now.session).forest }
-    {
-        match self.session.label_of(NodeId::new(node)) {
-            Ok(label) => Ok(name_part(label, part)),
-            Err(error) => Err(error),
-        }
-    }
-}
+use dom_session::NodeId;
 
 /// Lends a part of a node's name: 0 the name of an Element or a DocumentType, or the target of a ProcessingInstruction; 1 the public
 /// id and 2 the system id of a DocumentType. Another kind has none.
@@ -45,12 +26,14 @@ pub extern "C" fn hp_name_of<'a>(
         return HP_CLOSED;
     }
     let kept = &handle.slot.lend().kept;
-    match kept.name_of(node, part) {
-        Ok(Some(name)) => {
-            out.bytes = name;
-            kept.found()
-        }
-        Ok(None) => HP_NOT_THERE,
+    match kept.session.label_of(NodeId::new(node)) {
+        Ok(label) => match name_part(label, part) {
+            Some(name) => {
+                out.bytes = name;
+                kept.found()
+            }
+            None => HP_NOT_THERE,
+        },
         Err(error) => status_of_own(error),
     }
 }

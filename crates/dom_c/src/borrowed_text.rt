@@ -1,7 +1,6 @@
 //! Borrowing from the last answer: bytes and texts, which are valid until the next call with the handle.
 
 ghost use Rattle.std.specs.Prelude.{◌≡◌, List, ℕ, Option, Some, None, option_map, option_and_then, string_bytes};
-ghost use Rattle.dom_session.specs.Sessions.{answer_view};
 ghost use Rattle.dom_c.specs.WrittenValues.{last_answer_of};
 ghost use Rattle.dom_c.specs.ReplyItems.{look_up_status, looked_up, or_before, reply_text, name_at, line_status, line_lent};
 
@@ -24,35 +23,14 @@ pub struct Text<'a> {
     pub units: &'a [u16],
 }
 
-fn text_of(answer: &Answer) -> Option<&[u16]>
-    ensures { option_map (λ text. text.now) result ≡ reply_text (answer_view answer.now) }
-{
-    match answer {
-        Answer::Units(text) => Some(text.units()),
-        Answer::MaybeUnits(Some(text)) => Some(text.units()),
-        _ => None,
-    }
-}
-
-fn name_of(answer: &Answer, index: usize) -> Option<&[u8]>
-    ensures { option_map (λ name. name.now) result ≡ name_at index (answer_view answer.now) }
-{
-    match answer {
-        Answer::Names(names) => match names.as_slice().get(index) {
-            Some(name) => Some(name.as_bytes()),
-            None => None,
-        },
-        _ => None,
-    }
-}
-
 impl HandleState {
     fn text(&self) -> Option<&[u16]>
         ensures { option_map (λ text. text.now) result
             ≡ option_and_then reply_text (last_answer_of self.now) }
     {
         match &self.reply {
-            Some(Reply::Done(answer)) => text_of(answer),
+            Some(Reply::Done(Answer::Units(text))) => Some(text.units()),
+            Some(Reply::Done(Answer::MaybeUnits(Some(text)))) => Some(text.units()),
             _ => None,
         }
     }
@@ -62,7 +40,10 @@ impl HandleState {
             ≡ option_and_then (name_at index) (last_answer_of self.now) }
     {
         match &self.reply {
-            Some(Reply::Done(answer)) => name_of(answer, index),
+            Some(Reply::Done(Answer::Names(names))) => match names.as_slice().get(index) {
+                Some(name) => Some(name.as_bytes()),
+                None => None,
+            },
             _ => None,
         }
     }

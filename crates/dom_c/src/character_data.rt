@@ -2,12 +2,9 @@
 
 ghost use Rattle.std.specs.Prelude.{◌≡◌, Ok};
 ghost use Rattle.dom_model.specs.Commands.Command.{GetData, SetData, AppendData, InsertData, DeleteData, ReplaceData, SubstringData, SplitText};
-ghost use Rattle.dom_session.specs.Sessions.{command_view};
 ghost use Rattle.dom_c.specs.Answers.{Answers};
-ghost use Rattle.dom_c.specs.Arguments.{ReadsArgument};
 ghost use Rattle.dom_c.specs.WrittenValues.{answer_of_call, number_out};
 
-use crate::argument_fault::ArgumentFault;
 use crate::arguments::units_of;
 use crate::handle::Handle;
 use dom_session::{Command, NodeId, Texts};
@@ -21,30 +18,15 @@ pub extern "C" fn hp_data(handle: &mut Handle, node: u32) -> u8
     handle.take(Ok(Command::Texts(Texts::GetData(NodeId::new(node)))))
 }
 
-// Reads the arguments of `hp_set_data`.
-fn read_set_data(alloc: Global, node: u32, data: &[u16]) -> Result<Command, ArgumentFault>
-    ensures { ReadsArgument command_view result
-        (Ok (SetData node data.now)) }
-{
-    let data = units_of(alloc, data)?;
-    Ok(Command::Texts(Texts::SetData(NodeId::new(node), data)))
-}
-
 /// Sets the data of a node.
 #[unsafe(no_mangle)]
 pub extern "C" fn hp_set_data(handle: &mut Handle, alloc: Global, node: u32, data: &[u16]) -> u8
     ensures { Answers handle.old handle.new (Ok (SetData node data.now)) result }
 {
-    handle.take(read_set_data(alloc, node, data))
-}
-
-// Reads the arguments of `hp_append_data`.
-fn read_append_data(alloc: Global, node: u32, data: &[u16]) -> Result<Command, ArgumentFault>
-    ensures { ReadsArgument command_view result
-        (Ok (AppendData node data.now)) }
-{
-    let data = units_of(alloc, data)?;
-    Ok(Command::Texts(Texts::AppendData(NodeId::new(node), data)))
+    handle.take(units_of(alloc, data).map(|data| Command::Texts(Texts::SetData(
+        NodeId::new(node),
+        data,
+    ))))
 }
 
 /// Appends to the data of a node.
@@ -52,21 +34,10 @@ fn read_append_data(alloc: Global, node: u32, data: &[u16]) -> Result<Command, A
 pub extern "C" fn hp_append_data(handle: &mut Handle, alloc: Global, node: u32, data: &[u16]) -> u8
     ensures { Answers handle.old handle.new (Ok (AppendData node data.now)) result }
 {
-    handle.take(read_append_data(alloc, node, data))
-}
-
-// Reads the arguments of `hp_insert_data`.
-fn read_insert_data(
-    alloc: Global,
-    node: u32,
-    offset: u32,
-    data: &[u16],
-) -> Result<Command, ArgumentFault>
-    ensures { ReadsArgument command_view result
-        (Ok (InsertData node offset data.now)) }
-{
-    let data = units_of(alloc, data)?;
-    Ok(Command::Texts(Texts::InsertData(NodeId::new(node), offset, data)))
+    handle.take(units_of(alloc, data).map(|data| Command::Texts(Texts::AppendData(
+        NodeId::new(node),
+        data,
+    ))))
 }
 
 /// Inserts at an offset.
@@ -80,7 +51,11 @@ pub extern "C" fn hp_insert_data(
 ) -> u8
     ensures { Answers handle.old handle.new (Ok (InsertData node offset data.now)) result }
 {
-    handle.take(read_insert_data(alloc, node, offset, data))
+    handle.take(units_of(alloc, data).map(|data| Command::Texts(Texts::InsertData(
+        NodeId::new(node),
+        offset,
+        data,
+    ))))
 }
 
 /// Deletes a number of units from an offset on.
@@ -89,21 +64,6 @@ pub extern "C" fn hp_delete_data(handle: &mut Handle, node: u32, offset: u32, co
     ensures { Answers handle.old handle.new (Ok (DeleteData node offset count)) result }
 {
     handle.take(Ok(Command::Texts(Texts::DeleteData(NodeId::new(node), offset, count))))
-}
-
-// Reads the arguments of `hp_replace_data`.
-fn read_replace_data(
-    alloc: Global,
-    node: u32,
-    offset: u32,
-    count: u32,
-    data: &[u16],
-) -> Result<Command, ArgumentFault>
-    ensures { ReadsArgument command_view result
-        (Ok (ReplaceData node offset count data.now)) }
-{
-    let data = units_of(alloc, data)?;
-    Ok(Command::Texts(Texts::ReplaceData(NodeId::new(node), offset, count, data)))
 }
 
 /// Replaces a number of units from an offset on by a text.
@@ -118,7 +78,12 @@ pub extern "C" fn hp_replace_data(
 ) -> u8
     ensures { Answers handle.old handle.new (Ok (ReplaceData node offset count data.now)) result }
 {
-    handle.take(read_replace_data(alloc, node, offset, count, data))
+    handle.take(units_of(alloc, data).map(|data| Command::Texts(Texts::ReplaceData(
+        NodeId::new(node),
+        offset,
+        count,
+        data,
+    ))))
 }
 
 /// Finds a number of units from an offset on: `hp_text` reads the answer.

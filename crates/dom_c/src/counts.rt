@@ -1,12 +1,9 @@
 //! The numbers of objects in a session, read without a command: the last answer stays, and no memory is taken.
 
 ghost use Rattle.std.specs.Prelude.{◌≡◌};
-ghost use Rattle.dom_model.specs.Worlds.World.{World};
-ghost use Rattle.dom_session.specs.Sessions.{StandsFor};
 ghost use Rattle.dom_c.specs.Counts.{ReadsWorld, counts_out, in_use_out, in_use_held, made_out, made_held};
 
 use crate::handle::Handle;
-use crate::handle_state::HandleState;
 use crate::status::HP_CLOSED;
 use dom_session::Counts as Found;
 
@@ -39,22 +36,6 @@ fn counts_told(found: Found) -> Counts
     }
 }
 
-impl HandleState {
-    fn in_use(&self) -> Counts
-        ensures shown { (w : World) → StandsFor self.now.session w → result ≡ in_use_out w }
-        ensures held { result ≡ in_use_held self.now.session }
-    {
-        counts_told(self.session.in_use())
-    }
-
-    fn nodes_made(&self) -> u64
-        ensures shown { (w : World) → StandsFor self.now.session w → result ≡ made_out w }
-        ensures held { result ≡ made_held self.now.session }
-    {
-        self.session.nodes_made()
-    }
-}
-
 /// Writes the number of objects of each kind, in constant time, so that a host can tell its garbage collector the session's size.
 #[unsafe(no_mangle)]
 pub extern "C" fn hp_in_use(handle: &mut Handle, counts: &mut Counts) -> u8
@@ -65,7 +46,7 @@ pub extern "C" fn hp_in_use(handle: &mut Handle, counts: &mut Counts) -> u8
         return HP_CLOSED;
     }
     let kept = &handle.slot.lend().kept;
-    *counts = kept.in_use();
+    *counts = counts_told(kept.session.in_use());
     kept.found()
 }
 
@@ -78,7 +59,7 @@ pub extern "C" fn hp_nodes_made(handle: &mut Handle, count: &mut u64) -> u8
 {
     if handle.is_open {
         let kept = &handle.slot.lend().kept;
-        *count = kept.nodes_made();
+        *count = kept.session.nodes_made();
         kept.found()
     } else {
         HP_CLOSED

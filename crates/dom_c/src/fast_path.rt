@@ -2,7 +2,7 @@
 
 ghost use Rattle.std.specs.Prelude.{◌≡◌, ℕ, List, Ok, Result};
 ghost use Rattle.dom_model.specs.declared.Move.{Move as AMove};
-ghost use Rattle.dom_model.specs.Commands.Command.{Command as PlainCommand, CreateElement, CreateText, NextNode, PreviousNode, Walk, HasAttribute};
+ghost use Rattle.dom_model.specs.Commands.Command.{Command as PlainCommand, CreateElement, CreateText, Walk, HasAttribute};
 ghost use Rattle.dom_commands.specs.Views.{making_view, editing_view, reading_view};
 ghost use Rattle.dom_c.specs.Answers.{Answers, Asks};
 ghost use Rattle.dom_c.specs.Arguments.{ReadsArgument, utf8_name, then_make};
@@ -11,7 +11,7 @@ ghost use Rattle.dom_c.specs.WrittenValues.{answer_of_call, as_answered, number_
 use crate::argument_fault::ArgumentFault;
 use crate::handle::Handle;
 use crate::status::{HP_CLOSED, as_answered};
-use dom_session::{Editing, IteratorId, Making, Move, NodeId, Reading, Units, WalkerId};
+use dom_session::{Editing, Making, Move, NodeId, Reading, Units, WalkerId};
 
 impl Handle {
     /// Applies a command that makes a node, or reports the fault of its arguments. Writes the number of the node.
@@ -79,34 +79,6 @@ impl Handle {
             return HP_CLOSED;
         }
         self.slot.lend().kept.edit(command)
-    }
-
-    /// Moves an iterator on. Writes the node, or `HP_NONE`.
-    pub(crate) fn next_node(&mut self, iterator: IteratorId, number: &mut u32) -> u8
-        ensures answers { Answers self.old self.new (Ok (NextNode iterator)) result }
-        ensures told { number.new ≡ maybe_number_out (answer_of_call self.new result) number.old }
-    {
-        if !self.is_open {
-            return HP_CLOSED;
-        }
-        let kept = &mut self.slot.lend().kept;
-        let status = kept.next_node(iterator);
-        kept.write_maybe_number(status, number);
-        status
-    }
-
-    /// Moves an iterator back. Writes the node, or `HP_NONE`.
-    pub(crate) fn previous_node(&mut self, iterator: IteratorId, number: &mut u32) -> u8
-        ensures answers { Answers self.old self.new (Ok (PreviousNode iterator)) result }
-        ensures told { number.new ≡ maybe_number_out (answer_of_call self.new result) number.old }
-    {
-        if !self.is_open {
-            return HP_CLOSED;
-        }
-        let kept = &mut self.slot.lend().kept;
-        let status = kept.previous_node(iterator);
-        kept.write_maybe_number(status, number);
-        status
     }
 
     /// Makes a walker's move that was read, or reports its fault. Writes the node, or `HP_NONE`.

@@ -1,7 +1,6 @@
 //! The names of a node, borrowed from the answer of `hp_node`.
 
 ghost use Rattle.std.specs.Prelude.{◌≡◌, List, ℕ, Option, option_map, option_and_then};
-ghost use Rattle.dom_session.specs.Sessions.{answer_view};
 ghost use Rattle.dom_c.specs.WrittenValues.{last_answer_of};
 ghost use Rattle.dom_c.specs.ReplyItems.{look_up_status, looked_up, or_before};
 ghost use Rattle.dom_c.specs.Rows.{own_name, doctype_id, name_part, node_name_part};
@@ -44,22 +43,13 @@ pub(crate) fn name_part(label: &Label, part: u8) -> Option<&[u8]>
     }
 }
 
-fn node_name_of(answer: &Answer, part: u8) -> Option<&[u8]>
-    ensures { option_map (λ name. name.now) result ≡ node_name_part part (answer_view answer.now) }
-{
-    match answer {
-        Answer::NodeAt(found) => name_part(&found.label, part),
-        _ => None,
-    }
-}
-
 impl HandleState {
     fn node_name(&self, part: u8) -> Option<&[u8]>
         ensures { option_map (λ name. name.now) result
             ≡ option_and_then (node_name_part part) (last_answer_of self.now) }
     {
         match &self.reply {
-            Some(Reply::Done(answer)) => node_name_of(answer, part),
+            Some(Reply::Done(Answer::NodeAt(found))) => name_part(&found.label, part),
             _ => None,
         }
     }

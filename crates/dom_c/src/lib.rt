@@ -33,6 +33,7 @@ pub mod rows;
 pub mod session_slot;
 pub mod static_ranges;
 pub mod status;
+pub mod steps;
 pub mod stored_state;
 pub mod subtree;
 pub mod traversal;

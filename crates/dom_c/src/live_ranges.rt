@@ -8,7 +8,8 @@ ghost use Rattle.dom_c.specs.Positions.{ends_out};
 
 use crate::handle::Handle;
 use crate::positions::Ends;
-use dom_session::{Command, NodeId, RangeId, Ranging, Reading, Setting};
+use crate::status::{HP_OK, as_answered};
+use dom_session::{Answer, Command, NodeId, RangeId, Ranging, Reading, Reply, Setting};
 
 /// Makes a live range at the start of a document.
 #[unsafe(no_mangle)]
@@ -40,7 +41,19 @@ pub extern "C" fn hp_range(handle: &mut Handle, range: u32, ends: &mut Ends) -> 
     ensures answers { Asks handle.old handle.new (Ok (DescribeRange range)) result }
     ensures told { ends.new ≡ ends_out (answer_of_call handle.new (as_answered result)) ends.old }
 {
-    handle.read_ends(Reading::Range(RangeId::new(range)), ends)
+    let status = handle.read(Reading::Range(RangeId::new(range)));
+    if handle.is_open && as_answered(status) == HP_OK {
+        let kept = &handle.slot.lend().kept;
+        if let Some(Reply::Done(Answer::Ends(start, end))) = &kept.reply {
+            *ends = Ends {
+                start: start.node.number(),
+                start_offset: start.offset,
+                end: end.node.number(),
+                end_offset: end.offset,
+            };
+        }
+    }
+    status
 }
 
 /// Sets the start.

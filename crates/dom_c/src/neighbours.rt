@@ -2,8 +2,6 @@
 //! answers, from the world it holds, with `HP_ENDED`.
 
 ghost use Rattle.std.specs.Prelude.{◌≡◌};
-ghost use Rattle.dom_model.specs.Worlds.World.{World};
-ghost use Rattle.dom_session.specs.Sessions.{StandsFor, held_world};
 ghost use Rattle.dom_c.specs.Statuses.{found_at};
 ghost use Rattle.dom_c.specs.Neighbours.{ReadsForest, node_links, links_out, first_child_out, last_child_out, child_out, child_count_out, children_over};
 
@@ -11,7 +9,7 @@ use crate::handle::Handle;
 use crate::handle_state::HandleState;
 use crate::status::{HP_CLOSED, HP_ENDED, HP_OK, status_of_own};
 use crate::write_positions::{kind_number, node_number};
-use dom_session::{Neighbours, NodeId, OwnError};
+use dom_session::{Neighbours, NodeId};
 
 /// A node: the standard's number of its kind (`nodeType`), its node document, its parent, siblings and first and last child, or
 /// `HP_NONE`, the number of its children, and its length.
@@ -53,50 +51,6 @@ impl HandleState {
     {
         if self.ended { HP_ENDED } else { HP_OK }
     }
-
-    fn links(&self, node: u32) -> Result<NodeLinks, OwnError>
-        ensures shown { (w : World) → StandsFor self.now.session w →
-            result ≡ links_out node w.forest }
-        ensures held { result ≡ links_out node (held_world self.now.session).forest }
-    {
-        match self.session.links(NodeId::new(node)) {
-            Ok(found) => Ok(node_links(found)),
-            Err(error) => Err(error),
-        }
-    }
-
-    fn first_child(&self, node: u32) -> Result<u32, OwnError>
-        ensures shown { (w : World) → StandsFor self.now.session w →
-            result ≡ first_child_out node w.forest }
-        ensures held { result ≡ first_child_out node (held_world self.now.session).forest }
-    {
-        match self.session.first_child(NodeId::new(node)) {
-            Ok(found) => Ok(node_number(found)),
-            Err(error) => Err(error),
-        }
-    }
-
-    fn last_child(&self, node: u32) -> Result<u32, OwnError>
-        ensures shown { (w : World) → StandsFor self.now.session w →
-            result ≡ last_child_out node w.forest }
-        ensures held { result ≡ last_child_out node (held_world self.now.session).forest }
-    {
-        match self.session.last_child(NodeId::new(node)) {
-            Ok(found) => Ok(node_number(found)),
-            Err(error) => Err(error),
-        }
-    }
-
-    fn child_at(&self, node: u32, index: usize) -> Result<u32, OwnError>
-        ensures shown { (w : World) → StandsFor self.now.session w →
-            result ≡ child_out node index w.forest }
-        ensures held { result ≡ child_out node index (held_world self.now.session).forest }
-    {
-        match self.session.child_at(NodeId::new(node), index) {
-            Ok(found) => Ok(node_number(found)),
-            Err(error) => Err(error),
-        }
-    }
 }
 
 /// Writes a node's kind and its neighbours, all at once, in constant time.
@@ -109,9 +63,9 @@ pub extern "C" fn hp_links(handle: &mut Handle, node: u32, links: &mut NodeLinks
         return HP_CLOSED;
     }
     let kept = &handle.slot.lend().kept;
-    match kept.links(node) {
+    match kept.session.links(NodeId::new(node)) {
         Ok(found) => {
-            *links = found;
+            *links = node_links(found);
             kept.found()
         }
         Err(error) => status_of_own(error),
@@ -128,9 +82,9 @@ pub extern "C" fn hp_first_child(handle: &mut Handle, node: u32, child: &mut u32
         return HP_CLOSED;
     }
     let kept = &handle.slot.lend().kept;
-    match kept.first_child(node) {
+    match kept.session.first_child(NodeId::new(node)) {
         Ok(found) => {
-            *child = found;
+            *child = node_number(found);
             kept.found()
         }
         Err(error) => status_of_own(error),
@@ -147,9 +101,9 @@ pub extern "C" fn hp_last_child(handle: &mut Handle, node: u32, child: &mut u32)
         return HP_CLOSED;
     }
     let kept = &handle.slot.lend().kept;
-    match kept.last_child(node) {
+    match kept.session.last_child(NodeId::new(node)) {
         Ok(found) => {
-            *child = found;
+            *child = node_number(found);
             kept.found()
         }
         Err(error) => status_of_own(error),
@@ -166,9 +120,9 @@ pub extern "C" fn hp_child_at(handle: &mut Handle, node: u32, index: usize, chil
         return HP_CLOSED;
     }
     let kept = &handle.slot.lend().kept;
-    match kept.child_at(node, index) {
+    match kept.session.child_at(NodeId::new(node), index) {
         Ok(found) => {
-            *child = found;
+            *child = node_number(found);
             kept.found()
         }
         Err(error) => status_of_own(error),

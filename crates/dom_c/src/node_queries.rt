@@ -10,7 +10,9 @@ ghost use Rattle.dom_c.specs.Positions.{position_out};
 use crate::arguments::node_or_none;
 use crate::handle::Handle;
 use crate::positions::NodePosition;
-use dom_session::{Asking, Command, Copying, NodeId, Reading, Texts};
+use crate::status::HP_OK;
+use crate::write_positions::{kind_number, node_number};
+use dom_session::{Answer, Asking, Command, Copying, NodeId, Reading, Reply, Texts};
 
 /// Writes a node's kind and its neighbours; `hp_node_name` lends its names.
 #[unsafe(no_mangle)]
@@ -18,10 +20,20 @@ pub extern "C" fn hp_node(handle: &mut Handle, node: u32, place: &mut NodePositi
     ensures answers { Answers handle.old handle.new (Ok (DescribeNode node)) result }
     ensures told { place.new ≡ position_out (answer_of_call handle.new result) place.old }
 {
-    handle.take_place(
-        Ok(Command::Asking(Asking::DescribeNode(NodeId::new(node)))),
-        place,
-    )
+    let status = handle.take(Ok(Command::Asking(Asking::DescribeNode(NodeId::new(node)))));
+    if handle.is_open && status == HP_OK {
+        let kept = &handle.slot.lend().kept;
+        if let Some(Reply::Done(Answer::NodeAt(found))) = &kept.reply {
+            *place = NodePosition {
+                document: found.document.number(),
+                kind: kind_number(found.label.kind),
+                next: node_number(found.next),
+                parent: node_number(found.parent),
+                previous: node_number(found.previous),
+            };
+        }
+    }
+    status
 }
 
 /// Finds the children of a node: `hp_count` and `hp_number_at` read the answer.

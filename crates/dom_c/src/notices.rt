@@ -1,7 +1,6 @@
 //! The notified observers, the answer of `hp_notify`.
 
 ghost use Rattle.std.specs.Prelude.{◌≡◌, ℕ, Option, option_and_then};
-ghost use Rattle.dom_session.specs.Sessions.{answer_view};
 ghost use Rattle.dom_c.specs.WrittenValues.{last_answer_of};
 ghost use Rattle.dom_c.specs.ReplyItems.{look_up_status, looked_up, or_before};
 ghost use Rattle.dom_c.specs.Records.{notice_at};
@@ -19,27 +18,18 @@ pub struct Notice {
     pub records: usize,
 }
 
-fn notice_of(answer: &Answer, notice: usize) -> Option<Notice>
-    ensures { result ≡ notice_at notice (answer_view answer.now) }
-{
-    match answer {
-        Answer::Notified(told) => match told.as_slice().get(notice) {
-            Some(found) => Some(Notice {
-                observer: found.observer.number(),
-                records: found.records.len(),
-            }),
-            None => None,
-        },
-        _ => None,
-    }
-}
-
 impl HandleState {
     fn notice_at(&self, index: usize) -> Option<Notice>
         ensures { result ≡ option_and_then (notice_at index) (last_answer_of self.now) }
     {
         match &self.reply {
-            Some(Reply::Done(answer)) => notice_of(answer, index),
+            Some(Reply::Done(Answer::Notified(told))) => match told.as_slice().get(index) {
+                Some(found) => Some(Notice {
+                    observer: found.observer.number(),
+                    records: found.records.len(),
+                }),
+                None => None,
+            },
             _ => None,
         }
     }

@@ -1,8 +1,7 @@
 //! Reading records of mutations, the answers of `hp_notify` and `hp_take_records`.
 
-ghost use Rattle.std.specs.Prelude.{◌≡◌, List, ℕ, Option, length, map, slice_get, option_map, option_and_then};
+ghost use Rattle.std.specs.Prelude.{◌≡◌, List, ℕ, Option, length, map, option_map, option_and_then};
 ghost use Rattle.dom_model.specs.MutationObservers.Record.{Record as PlainRecord};
-ghost use Rattle.dom_session.specs.Sessions.{answer_view};
 ghost use Rattle.dom_c.specs.WrittenValues.{last_answer_of};
 ghost use Rattle.dom_session.specs.Neighbours.{laid_over};
 ghost use Rattle.dom_c.specs.ReplyItems.{look_up_status, looked_up, or_before, laid_or_before};
@@ -13,7 +12,7 @@ use crate::handle::Handle;
 use crate::handle_state::HandleState;
 use crate::status::{HP_CLOSED, HP_NOT_THERE, HP_OK, HP_OUT_OF_MEMORY};
 use crate::write_positions::node_number;
-use dom_session::{Answer, NodeId, Record as MutationRecord, RecordType, Reply};
+use dom_session::{Answer, Record as MutationRecord, RecordType, Reply};
 
 /// The record of an attribute.
 pub const HP_ATTRIBUTES: u8 = 0;
@@ -46,31 +45,6 @@ fn type_number(what: RecordType) -> u8
     }
 }
 
-// Returns the records of a notice; those that were taken count as the first.
-fn records_in(answer: &Answer, notice: usize) -> Option<&[MutationRecord]>
-    ensures { option_map (λ records. records.now) result
-        ≡ records_in notice (answer_view answer.now) }
-{
-    match answer {
-        Answer::Records(records) if notice == 0 => Some(records.as_slice()),
-        Answer::Notified(told) => match told.as_slice().get(notice) {
-            Some(found) => Some(found.records.as_slice()),
-            None => None,
-        },
-        _ => None,
-    }
-}
-
-fn record_in(answer: &Answer, notice: usize, index: usize) -> Option<&MutationRecord>
-    ensures { option_map (λ found. found.now) result
-        ≡ record_in notice index (answer_view answer.now) }
-{
-    match records_in(answer, notice) {
-        Some(records) => records.get(index),
-        None => None,
-    }
-}
-
 // Returns a record as C reads it.
 fn record_told(found: &MutationRecord) -> Record
     ensures { result ≡ record_out found.now }
@@ -99,97 +73,29 @@ fn lay_over(records: &[MutationRecord], into: &mut [Record])
     }
 }
 
-fn number_in(nodes: &[NodeId], at: usize) -> Option<u32>
-    ensures { result ≡ slice_get nodes.now at }
-{
-    match nodes.get(at) {
-        Some(node) => Some(node.number()),
-        None => None,
-    }
-}
-
-fn name_of(found: &MutationRecord) -> Option<&[u8]>
-    ensures { option_map (λ name. name.now) result ≡ found.now.name }
-{
-    match &found.name {
-        Some(name) => Some(name.as_bytes()),
-        None => None,
-    }
-}
-
-fn old_value_of(found: &MutationRecord) -> Option<&[u16]>
-    ensures { option_map (λ text. text.now) result ≡ found.now.old_value }
-{
-    match &found.old_value {
-        Some(text) => Some(text.units()),
-        None => None,
-    }
-}
-
 impl HandleState {
+    // Borrows the records of a notice; those that were taken count as the first.
     fn records(&self, notice: usize) -> Option<&[MutationRecord]>
         ensures { option_map (λ records. records.now) result
             ≡ option_and_then (records_in notice) (last_answer_of self.now) }
     {
         match &self.reply {
-            Some(Reply::Done(answer)) => records_in(answer, notice),
+            Some(Reply::Done(Answer::Records(records))) if notice == 0 => Some(records.as_slice()),
+            Some(Reply::Done(Answer::Notified(told))) => match told.as_slice().get(notice) {
+                Some(found) => Some(found.records.as_slice()),
+                None => None,
+            },
             _ => None,
         }
     }
 
+    // Borrows a record of a notice.
     fn record(&self, notice: usize, index: usize) -> Option<&MutationRecord>
         ensures { option_map (λ found. found.now) result
             ≡ option_and_then (record_in notice index) (last_answer_of self.now) }
     {
-        match &self.reply {
-            Some(Reply::Done(answer)) => record_in(answer, notice, index),
-            _ => None,
-        }
-    }
-
-    fn record_at(&self, notice: usize, index: usize) -> Option<Record>
-        ensures { result ≡ option_and_then (record_at notice index) (last_answer_of self.now) }
-    {
-        match self.record(notice, index) {
-            Some(found) => Some(record_told(found)),
-            None => None,
-        }
-    }
-
-    fn added_at(&self, notice: usize, index: usize, at: usize) -> Option<u32>
-        ensures { result ≡ option_and_then (added_at notice index at) (last_answer_of self.now) }
-    {
-        match self.record(notice, index) {
-            Some(found) => number_in(found.added.as_slice(), at),
-            None => None,
-        }
-    }
-
-    fn removed_at(&self, notice: usize, index: usize, at: usize) -> Option<u32>
-        ensures { result ≡ option_and_then (removed_at notice index at) (last_answer_of self.now) }
-    {
-        match self.record(notice, index) {
-            Some(found) => number_in(found.removed.as_slice(), at),
-            None => None,
-        }
-    }
-
-    fn record_name_at(&self, notice: usize, index: usize) -> Option<&[u8]>
-        ensures { option_map (λ name. name.now) result
-            ≡ option_and_then (record_name_at notice index) (last_answer_of self.now) }
-    {
-        match self.record(notice, index) {
-            Some(found) => name_of(found),
-            None => None,
-        }
-    }
-
-    fn old_value_at(&self, notice: usize, index: usize) -> Option<&[u16]>
-        ensures { option_map (λ text. text.now) result
-            ≡ option_and_then (old_value_at notice index) (last_answer_of self.now) }
-    {
-        match self.record(notice, index) {
-            Some(found) => old_value_of(found),
+        match self.records(notice) {
+            Some(records) => records.get(index),
             None => None,
         }
     }
@@ -215,9 +121,9 @@ pub extern "C" fn hp_record_at(
     if kept.ended {
         return HP_OUT_OF_MEMORY;
     }
-    match kept.record_at(notice, index) {
+    match kept.record(notice, index) {
         Some(found) => {
-            *record = found;
+            *record = record_told(found);
             HP_OK
         }
         None => HP_NOT_THERE,
@@ -277,13 +183,13 @@ pub extern "C" fn hp_record_added_at(
     if kept.ended {
         return HP_OUT_OF_MEMORY;
     }
-    match kept.added_at(notice, index, at) {
-        Some(found) => {
-            *node = found;
-            HP_OK
-        }
-        None => HP_NOT_THERE,
+    if let Some(found) = kept.record(notice, index)
+        && let Some(added) = found.added.as_slice().get(at)
+    {
+        *node = added.number();
+        return HP_OK;
     }
+    HP_NOT_THERE
 }
 
 /// Writes the node at a place among the removed nodes of a record.
@@ -307,13 +213,13 @@ pub extern "C" fn hp_record_removed_at(
     if kept.ended {
         return HP_OUT_OF_MEMORY;
     }
-    match kept.removed_at(notice, index, at) {
-        Some(found) => {
-            *node = found;
-            HP_OK
-        }
-        None => HP_NOT_THERE,
+    if let Some(found) = kept.record(notice, index)
+        && let Some(removed) = found.removed.as_slice().get(at)
+    {
+        *node = removed.number();
+        return HP_OK;
     }
+    HP_NOT_THERE
 }
 
 /// Lends the attribute name of a record; there is none if it is null.
@@ -335,13 +241,13 @@ pub extern "C" fn hp_record_name<'a>(
     if kept.ended {
         return HP_OUT_OF_MEMORY;
     }
-    match kept.record_name_at(notice, index) {
-        Some(name) => {
-            out.bytes = name;
-            HP_OK
-        }
-        None => HP_NOT_THERE,
+    if let Some(found) = kept.record(notice, index)
+        && let Some(name) = &found.name
+    {
+        out.bytes = name.as_bytes();
+        return HP_OK;
     }
+    HP_NOT_THERE
 }
 
 /// Lends the old value of a record; there is none if it is null.
@@ -363,11 +269,11 @@ pub extern "C" fn hp_record_old_value<'a>(
     if kept.ended {
         return HP_OUT_OF_MEMORY;
     }
-    match kept.old_value_at(notice, index) {
-        Some(value) => {
-            out.units = value;
-            HP_OK
-        }
-        None => HP_NOT_THERE,
+    if let Some(found) = kept.record(notice, index)
+        && let Some(value) = &found.old_value
+    {
+        out.units = value.units();
+        return HP_OK;
     }
+    HP_NOT_THERE
 }

@@ -1,7 +1,6 @@
 //! Reading the last answer: its text, and its parts by their index.
 
 ghost use Rattle.std.specs.Prelude.{◌≡◌, List, ℕ, Option, length, option_map, option_and_then, slice_get, string_bytes};
-ghost use Rattle.dom_session.specs.Sessions.{answer_view};
 ghost use Rattle.dom_c.specs.WrittenValues.{last_answer_of};
 ghost use Rattle.dom_session.specs.Neighbours.{laid_over};
 ghost use Rattle.dom_c.specs.ReplyItems.{look_up_status, looked_up, or_before, laid_or_before, item_count, numbers_in, listed_number};
@@ -10,29 +9,6 @@ use crate::handle::Handle;
 use crate::handle_state::HandleState;
 use crate::status::{HP_CLOSED, HP_NOT_THERE, HP_OK, HP_OUT_OF_MEMORY};
 use dom_session::{Answer, Reply};
-
-// Returns the number of parts of an answer, if it has parts.
-fn count_of(answer: &Answer) -> Option<usize>
-    ensures { result ≡ item_count (answer_view answer.now) }
-{
-    match answer {
-        Answer::Numbers(numbers) => Some(numbers.len()),
-        Answer::Names(names) => Some(names.len()),
-        Answer::Rows(rows) => Some(rows.len()),
-        Answer::Records(records) => Some(records.len()),
-        Answer::Notified(told) => Some(told.len()),
-        _ => None,
-    }
-}
-
-fn numbers_of(answer: &Answer) -> Option<&[u32]>
-    ensures { option_map (λ numbers. numbers.now) result ≡ numbers_in (answer_view answer.now) }
-{
-    match answer {
-        Answer::Numbers(numbers) => Some(numbers.as_slice()),
-        _ => None,
-    }
-}
 
 // Copies numbers over the front of an array, as many as there is room for.
 fn lay_over(numbers: &[u32], into: &mut [u32])
@@ -48,21 +24,17 @@ fn lay_over(numbers: &[u32], into: &mut [u32])
     }
 }
 
-fn number_of(answer: &Answer, index: usize) -> Option<u32>
-    ensures { result ≡ listed_number index (answer_view answer.now) }
-{
-    match answer {
-        Answer::Numbers(numbers) => numbers.as_slice().get(index).copied(),
-        _ => None,
-    }
-}
-
 impl HandleState {
+    // Returns the number of parts of the last answer, if it has parts.
     fn count(&self) -> Option<usize>
         ensures { result ≡ option_and_then item_count (last_answer_of self.now) }
     {
         match &self.reply {
-            Some(Reply::Done(answer)) => count_of(answer),
+            Some(Reply::Done(Answer::Numbers(numbers))) => Some(numbers.len()),
+            Some(Reply::Done(Answer::Names(names))) => Some(names.len()),
+            Some(Reply::Done(Answer::Rows(rows))) => Some(rows.len()),
+            Some(Reply::Done(Answer::Records(records))) => Some(records.len()),
+            Some(Reply::Done(Answer::Notified(told))) => Some(told.len()),
             _ => None,
         }
     }
@@ -72,7 +44,7 @@ impl HandleState {
             ≡ option_and_then numbers_in (last_answer_of self.now) }
     {
         match &self.reply {
-            Some(Reply::Done(answer)) => numbers_of(answer),
+            Some(Reply::Done(Answer::Numbers(numbers))) => Some(numbers.as_slice()),
             _ => None,
         }
     }
@@ -81,7 +53,7 @@ impl HandleState {
         ensures { result ≡ option_and_then (listed_number index) (last_answer_of self.now) }
     {
         match &self.reply {
-            Some(Reply::Done(answer)) => number_of(answer, index),
+            Some(Reply::Done(Answer::Numbers(numbers))) => numbers.as_slice().get(index).copied(),
             _ => None,
         }
     }

@@ -2,10 +2,9 @@
 
 ghost use Rattle.std.specs.Prelude.{◌≡◌, List, ℕ, Option, option_map, option_and_then};
 ghost use Rattle.dom_model.specs.Commands.Reply.{TreeRow as PlainRow};
-ghost use Rattle.dom_session.specs.Sessions.{answer_view};
 ghost use Rattle.dom_c.specs.WrittenValues.{last_answer_of};
 ghost use Rattle.dom_c.specs.ReplyItems.{look_up_status, looked_up, or_before};
-ghost use Rattle.dom_c.specs.Rows.{row_in, row_out, row_at, row_name_at, row_text_of, row_text_at, attribute_name_in, attribute_value_in, row_attribute_name_at, row_attribute_value_at};
+ghost use Rattle.dom_c.specs.Rows.{row_in, row_out, row_at, row_name_at, row_text_of, row_text_at, row_attribute_name_at, row_attribute_value_at};
 
 use crate::borrowed_text::{Bytes, Text};
 use crate::handle::Handle;
@@ -24,15 +23,6 @@ pub struct Row {
     pub node: u32,
     pub type_: u16,
     pub attributes: usize,
-}
-
-fn row_in(answer: &Answer, index: usize) -> Option<&TreeRow>
-    ensures { option_map (λ row. row.now) result ≡ row_in index (answer_view answer.now) }
-{
-    match answer {
-        Answer::Rows(rows) => rows.as_slice().get(index),
-        _ => None,
-    }
 }
 
 // Returns a row as C reads it.
@@ -57,81 +47,14 @@ fn row_text_of(row: &TreeRow) -> Option<&[u16]>
     }
 }
 
-fn attribute_name_in(row: &TreeRow, at: usize) -> Option<&[u8]>
-    ensures { option_map (λ name. name.now) result ≡ attribute_name_in at row.now }
-{
-    match row.body.attribute_at(at) {
-        Some((name, _)) => Some(name.as_bytes()),
-        None => None,
-    }
-}
-
-fn attribute_value_in(row: &TreeRow, at: usize) -> Option<&[u16]>
-    ensures { option_map (λ value. value.now) result ≡ attribute_value_in at row.now }
-{
-    match row.body.attribute_at(at) {
-        Some((_, value)) => Some(value.units()),
-        None => None,
-    }
-}
-
 impl HandleState {
     fn row(&self, index: usize) -> Option<&TreeRow>
         ensures { option_map (λ row. row.now) result
             ≡ option_and_then (row_in index) (last_answer_of self.now) }
     {
         match &self.reply {
-            Some(Reply::Done(answer)) => row_in(answer, index),
+            Some(Reply::Done(Answer::Rows(rows))) => rows.as_slice().get(index),
             _ => None,
-        }
-    }
-
-    fn row_at(&self, index: usize) -> Option<Row>
-        ensures { result ≡ option_and_then (row_at index) (last_answer_of self.now) }
-    {
-        match self.row(index) {
-            Some(row) => Some(row_told(row)),
-            None => None,
-        }
-    }
-
-    fn row_name_at(&self, index: usize, part: u8) -> Option<&[u8]>
-        ensures { option_map (λ name. name.now) result
-            ≡ option_and_then (row_name_at index part) (last_answer_of self.now) }
-    {
-        match self.row(index) {
-            Some(row) => name_part(&row.label, part),
-            None => None,
-        }
-    }
-
-    fn row_text_at(&self, index: usize) -> Option<&[u16]>
-        ensures { option_map (λ text. text.now) result
-            ≡ option_and_then (row_text_at index) (last_answer_of self.now) }
-    {
-        match self.row(index) {
-            Some(row) => row_text_of(row),
-            None => None,
-        }
-    }
-
-    fn row_attribute_name_at(&self, index: usize, at: usize) -> Option<&[u8]>
-        ensures { option_map (λ name. name.now) result
-            ≡ option_and_then (row_attribute_name_at index at) (last_answer_of self.now) }
-    {
-        match self.row(index) {
-            Some(row) => attribute_name_in(row, at),
-            None => None,
-        }
-    }
-
-    fn row_attribute_value_at(&self, index: usize, at: usize) -> Option<&[u16]>
-        ensures { option_map (λ value. value.now) result
-            ≡ option_and_then (row_attribute_value_at index at) (last_answer_of self.now) }
-    {
-        match self.row(index) {
-            Some(row) => attribute_value_in(row, at),
-            None => None,
         }
     }
 }
@@ -150,9 +73,9 @@ pub extern "C" fn hp_row_at(handle: &mut Handle, index: usize, row: &mut Row) ->
     if kept.ended {
         return HP_OUT_OF_MEMORY;
     }
-    match kept.row_at(index) {
+    match kept.row(index) {
         Some(found) => {
-            *row = found;
+            *row = row_told(found);
             HP_OK
         }
         None => HP_NOT_THERE,
@@ -179,13 +102,13 @@ pub extern "C" fn hp_row_name<'a>(
     if kept.ended {
         return HP_OUT_OF_MEMORY;
     }
-    match kept.row_name_at(index, part) {
-        Some(name) => {
-            out.bytes = name;
-            HP_OK
-        }
-        None => HP_NOT_THERE,
+    if let Some(row) = kept.row(index)
+        && let Some(name) = name_part(&row.label, part)
+    {
+        out.bytes = name;
+        return HP_OK;
     }
+    HP_NOT_THERE
 }
 
 /// Lends the data of a row's node. A Text, a Comment and a ProcessingInstruction have data.
@@ -202,13 +125,13 @@ pub extern "C" fn hp_row_text<'a>(handle: &'a mut Handle, index: usize, out: &mu
     if kept.ended {
         return HP_OUT_OF_MEMORY;
     }
-    match kept.row_text_at(index) {
-        Some(text) => {
-            out.units = text;
-            HP_OK
-        }
-        None => HP_NOT_THERE,
+    if let Some(row) = kept.row(index)
+        && let Some(text) = row_text_of(row)
+    {
+        out.units = text;
+        return HP_OK;
     }
+    HP_NOT_THERE
 }
 
 /// Lends the name of the attribute at a place among those of a row.
@@ -230,13 +153,13 @@ pub extern "C" fn hp_row_attribute_name<'a>(
     if kept.ended {
         return HP_OUT_OF_MEMORY;
     }
-    match kept.row_attribute_name_at(index, at) {
-        Some(name) => {
-            out.bytes = name;
-            HP_OK
-        }
-        None => HP_NOT_THERE,
+    if let Some(row) = kept.row(index)
+        && let Some((name, _)) = row.body.attribute_at(at)
+    {
+        out.bytes = name.as_bytes();
+        return HP_OK;
     }
+    HP_NOT_THERE
 }
 
 /// Lends the value of the attribute at a place among those of a row.
@@ -258,11 +181,11 @@ pub extern "C" fn hp_row_attribute_value<'a>(
     if kept.ended {
         return HP_OUT_OF_MEMORY;
     }
-    match kept.row_attribute_value_at(index, at) {
-        Some(value) => {
-            out.units = value;
-            HP_OK
-        }
-        None => HP_NOT_THERE,
+    if let Some(row) = kept.row(index)
+        && let Some((_, value)) = row.body.attribute_at(at)
+    {
+        out.units = value.units();
+        return HP_OK;
     }
+    HP_NOT_THERE
 }

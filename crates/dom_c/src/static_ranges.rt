@@ -8,7 +8,9 @@ ghost use Rattle.dom_c.specs.Positions.{static_ends_out};
 
 use crate::handle::Handle;
 use crate::positions::StaticEnds;
-use dom_session::{Command, NodeId, Point, Reading, StaticId, StaticRanging};
+use crate::status::{HP_OK, as_answered};
+use crate::write_numbers::flag_number;
+use dom_session::{Answer, Command, NodeId, Point, Reading, Reply, StaticId, StaticRanging};
 
 /// Makes a static range.
 #[unsafe(no_mangle)]
@@ -46,7 +48,20 @@ pub extern "C" fn hp_static_range(handle: &mut Handle, range: u32, ends: &mut St
     ensures answers { Asks handle.old handle.new (Ok (DescribeStaticRange range)) result }
     ensures told { ends.new ≡ static_ends_out (answer_of_call handle.new (as_answered result)) ends.old }
 {
-    handle.read_static_ends(Reading::StaticRange(StaticId::new(range)), ends)
+    let status = handle.read(Reading::StaticRange(StaticId::new(range)));
+    if handle.is_open && as_answered(status) == HP_OK {
+        let kept = &handle.slot.lend().kept;
+        if let Some(Reply::Done(Answer::StaticEnds(start, end, is_valid))) = &kept.reply {
+            *ends = StaticEnds {
+                start: start.node.number(),
+                start_offset: start.offset,
+                end: end.node.number(),
+                end_offset: end.offset,
+                is_valid: flag_number(*is_valid),
+            };
+        }
+    }
+    status
 }
 
 /// Releases a static range.

@@ -7,6 +7,7 @@ ghost use Rattle.dom_c.specs.Answers.{Answers, Asks};
 ghost use Rattle.dom_c.specs.Arguments.{ReadsArgument, move_of_number, then_make};
 ghost use Rattle.dom_c.specs.NameLists.{rules_in};
 ghost use Rattle.dom_c.specs.WrittenValues.{answer_of_call, as_answered, maybe_number_out, number_out};
+ghost use Rattle.dom_c.specs.StepsInTurn.{TakesSteps};
 ghost use Rattle.dom_c.specs.Positions.{iterator_at_out, walker_at_out};
 
 use crate::argument_fault::ArgumentFault;
@@ -14,7 +15,11 @@ use crate::arguments::move_of;
 use crate::filters::rules_of;
 use crate::handle::Handle;
 use crate::positions::{IteratorAt, WalkerAt};
-use dom_session::{Command, Filter, IteratorId, NodeId, Reading, Traversing, WalkerId};
+use crate::status::{HP_CLOSED, HP_OK, as_answered};
+use crate::write_numbers::flag_number;
+use dom_session::{
+    Answer, Command, Filter, IteratorId, NodeId, Reading, Reply, Traversing, WalkerId,
+};
 use std::alloc::Global;
 
 // Reads the arguments of `hp_create_iterator`.
@@ -103,7 +108,18 @@ pub extern "C" fn hp_iterator(handle: &mut Handle, iterator: u32, place: &mut It
     ensures answers { Asks handle.old handle.new (Ok (DescribeIterator iterator)) result }
     ensures told { place.new ≡ iterator_at_out (answer_of_call handle.new (as_answered result)) place.old }
 {
-    handle.read_iterator_at(Reading::Iterator(IteratorId::new(iterator)), place)
+    let status = handle.read(Reading::Iterator(IteratorId::new(iterator)));
+    if handle.is_open && as_answered(status) == HP_OK {
+        let kept = &handle.slot.lend().kept;
+        if let Some(Reply::Done(Answer::IteratorAt(root, reference, is_before))) = &kept.reply {
+            *place = IteratorAt {
+                root: root.number(),
+                reference: reference.number(),
+                is_before: flag_number(*is_before),
+            };
+        }
+    }
+    status
 }
 
 /// Moves an iterator on, and writes the node, or `HP_NONE`.
@@ -112,7 +128,29 @@ pub extern "C" fn hp_next_node(handle: &mut Handle, iterator: u32, node: &mut u3
     ensures answers { Answers handle.old handle.new (Ok (NextNode iterator)) result }
     ensures told { node.new ≡ maybe_number_out (answer_of_call handle.new result) node.old }
 {
-    handle.next_node(IteratorId::new(iterator), node)
+    if !handle.is_open {
+        return HP_CLOSED;
+    }
+    let kept = &mut handle.slot.lend().kept;
+    let status = kept.next_node(IteratorId::new(iterator));
+    kept.write_maybe_number(status, node);
+    status
+}
+
+/// Moves an iterator on as often as an array has room, as `hp_next_node` in turn. It writes the nodes, and how many: fewer than there is
+/// room for if a step found none, or was refused; then the status is that step's. The last answer is the last step's. The rest of the array
+/// stays. It takes no memory.
+#[unsafe(no_mangle)]
+pub extern "C" fn hp_next_nodes_into(
+    handle: &mut Handle,
+    iterator: u32,
+    nodes: &mut [u32],
+    count: &mut usize,
+) -> u8
+    ensures { TakesSteps handle.old handle.new (Ok (NextNode iterator)) nodes.old nodes.new
+        count.old count.new result }
+{
+    handle.next_nodes_into(IteratorId::new(iterator), nodes, count)
 }
 
 /// Moves an iterator back, and writes the node, or `HP_NONE`.
@@ -121,7 +159,13 @@ pub extern "C" fn hp_previous_node(handle: &mut Handle, iterator: u32, node: &mu
     ensures answers { Answers handle.old handle.new (Ok (PreviousNode iterator)) result }
     ensures told { node.new ≡ maybe_number_out (answer_of_call handle.new result) node.old }
 {
-    handle.previous_node(IteratorId::new(iterator), node)
+    if !handle.is_open {
+        return HP_CLOSED;
+    }
+    let kept = &mut handle.slot.lend().kept;
+    let status = kept.previous_node(IteratorId::new(iterator));
+    kept.write_maybe_number(status, node);
+    status
 }
 
 /// Writes the root and the current node of a walker.
@@ -130,7 +174,17 @@ pub extern "C" fn hp_walker(handle: &mut Handle, walker: u32, place: &mut Walker
     ensures answers { Asks handle.old handle.new (Ok (DescribeWalker walker)) result }
     ensures told { place.new ≡ walker_at_out (answer_of_call handle.new (as_answered result)) place.old }
 {
-    handle.read_walker_at(Reading::Walker(WalkerId::new(walker)), place)
+    let status = handle.read(Reading::Walker(WalkerId::new(walker)));
+    if handle.is_open && as_answered(status) == HP_OK {
+        let kept = &handle.slot.lend().kept;
+        if let Some(Reply::Done(Answer::WalkerAt(root, current))) = &kept.reply {
+            *place = WalkerAt {
+                root: root.number(),
+                current: current.number(),
+            };
+        }
+    }
+    status
 }
 
 /// Sets a walker on a node.
@@ -152,6 +206,23 @@ pub extern "C" fn hp_walk(handle: &mut Handle, walker: u32, direction: u8, node:
     ensures told { node.new ≡ maybe_number_out (answer_of_call handle.new result) node.old }
 {
     handle.walk(WalkerId::new(walker), move_of(direction), node)
+}
+
+/// Makes a walker's move as often as an array has room, as `hp_walk` in turn. It writes the nodes, and how many, and answers as
+/// `hp_next_nodes_into` does.
+#[unsafe(no_mangle)]
+pub extern "C" fn hp_walk_into(
+    handle: &mut Handle,
+    walker: u32,
+    direction: u8,
+    nodes: &mut [u32],
+    count: &mut usize,
+) -> u8
+    ensures { TakesSteps handle.old handle.new
+        (then_make (move_of_number direction) (λ direction. Ok (Walk walker direction))) nodes.old
+        nodes.new count.old count.new result }
+{
+    handle.walk_into(WalkerId::new(walker), direction, nodes, count)
 }
 
 /// Releases an iterator.

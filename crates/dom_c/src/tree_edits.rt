@@ -2,11 +2,9 @@
 
 ghost use Rattle.std.specs.Prelude.{Ok};
 ghost use Rattle.dom_model.specs.Commands.Command.{InsertBefore, AppendChild, AdoptNode, ReplaceChild, RemoveChild, Remove, ReplaceChildren, Normalize, SetTextContent, Discard};
-ghost use Rattle.dom_session.specs.Sessions.{command_view};
 ghost use Rattle.dom_c.specs.Answers.{Answers};
-ghost use Rattle.dom_c.specs.Arguments.{ReadsArgument, number_or_none};
+ghost use Rattle.dom_c.specs.Arguments.{number_or_none};
 
-use crate::argument_fault::ArgumentFault;
 use crate::arguments::{node_or_none, units_of};
 use crate::handle::Handle;
 use dom_session::{Command, Editing, NodeId, Texts};
@@ -78,15 +76,6 @@ pub extern "C" fn hp_normalize(handle: &mut Handle, node: u32) -> u8
     handle.take(Ok(Command::Texts(Texts::Normalize(NodeId::new(node)))))
 }
 
-// Reads the arguments of `hp_set_text_content`.
-fn read_set_text_content(alloc: Global, node: u32, text: &[u16]) -> Result<Command, ArgumentFault>
-    ensures { ReadsArgument command_view result
-        (Ok (SetTextContent node text.now)) }
-{
-    let text = units_of(alloc, text)?;
-    Ok(Command::Texts(Texts::SetTextContent(NodeId::new(node), text)))
-}
-
 /// Replaces the contents of a node by a text.
 #[unsafe(no_mangle)]
 pub extern "C" fn hp_set_text_content(
@@ -97,7 +86,10 @@ pub extern "C" fn hp_set_text_content(
 ) -> u8
     ensures { Answers handle.old handle.new (Ok (SetTextContent node text.now)) result }
 {
-    handle.take(read_set_text_content(alloc, node, text))
+    handle.take(units_of(alloc, text).map(|text| Command::Texts(Texts::SetTextContent(
+        NodeId::new(node),
+        text,
+    ))))
 }
 
 /// Frees a node and its descendants.

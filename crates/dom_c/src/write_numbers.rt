@@ -1,11 +1,11 @@
 //! Writing numbers, flags and orders of an answer through the pointers of C.
 
-ghost use Rattle.std.specs.Prelude.{◌≡◌, ℕ, Result, Ok, Some};
+ghost use Rattle.std.specs.Prelude.{◌≡◌, ℕ, Result, Ok};
 ghost use Rattle.dom_model.specs.Commands.Command.{Command as PlainCommand};
-ghost use Rattle.dom_session.specs.Sessions.{command_view, reading_view, answer_view, reply_view};
+ghost use Rattle.dom_session.specs.Sessions.{command_view, reading_view};
 ghost use Rattle.dom_c.specs.Answers.{Answers, Asks};
 ghost use Rattle.dom_c.specs.Arguments.{ReadsArgument};
-ghost use Rattle.dom_c.specs.WrittenValues.{answer_of, answer_of_call, answer_of_status, as_answered, number_out, count_out, number_or_null, maybe_number_out, flag_number, flag_out, order_number, order_out};
+ghost use Rattle.dom_c.specs.WrittenValues.{answer_of_call, answer_of_status, as_answered, number_out, count_out, maybe_number_out, flag_number, flag_out, order_number, order_out};
 
 use crate::argument_fault::ArgumentFault;
 use crate::handle::Handle;
@@ -31,80 +31,22 @@ fn order_number(order: Ordering) -> i8
     }
 }
 
-// Returns a number, or `HP_NONE`.
-fn number_or_null(number: Option<u32>) -> u32
-    ensures { result ≡ number_or_null number }
-{
-    match number {
-        None => HP_NONE,
-        Some(number) => number,
-    }
-}
-
-// Writes a number.
-fn write_number(reply: &Reply, number: &mut u32)
-    ensures { number.new ≡ number_out (answer_of (reply_view reply.now)) number.old }
-{
-    match reply {
-        Reply::Brief(Brief::Number(found)) => *number = *found,
-        Reply::Done(Answer::Count(found)) => {
-            if let Ok(found) = u32::try_from(*found) {
-                *number = found;
-            }
-        }
-        _ => {}
-    }
-}
-
-// Writes an index or a length.
-fn write_count(reply: &Reply, count: &mut usize)
-    ensures { count.new ≡ count_out (answer_of (reply_view reply.now)) count.old }
-{
-    match reply {
-        Reply::Brief(Brief::Number(found)) => *count = *found as usize,
-        Reply::Done(Answer::Count(found)) => *count = *found,
-        _ => {}
-    }
-}
-
-// Writes true or false: 1 or 0.
-fn write_flag(answer: &Answer, flag: &mut u8)
-    ensures { flag.new ≡ flag_out (Some (answer_view answer.now)) flag.old }
-{
-    if let Answer::Flag(found) = answer {
-        *flag = flag_number(*found);
-    }
-}
-
-// Writes the relative position of two places: -1, 0 or 1.
-fn write_order(answer: &Answer, order: &mut i8)
-    ensures { order.new ≡ order_out (Some (answer_view answer.now)) order.old }
-{
-    if let Answer::Order(found) = answer {
-        *order = order_number(*found);
-    }
-}
-
 impl HandleState {
     /// Writes a number.
     pub(crate) fn write_number(&self, status: u8, number: &mut u32)
         ensures { number.new ≡ number_out (answer_of_status self.now status) number.old }
     {
-        if status == HP_OK
-            && let Some(reply) = &self.reply
-        {
-            write_number(reply, number);
+        if status != HP_OK {
+            return;
         }
-    }
-
-    // Writes an index or a length.
-    fn write_count(&self, status: u8, count: &mut usize)
-        ensures { count.new ≡ count_out (answer_of_status self.now status) count.old }
-    {
-        if status == HP_OK
-            && let Some(reply) = &self.reply
-        {
-            write_count(reply, count);
+        match &self.reply {
+            Some(Reply::Brief(Brief::Number(found))) => *number = *found,
+            Some(Reply::Done(Answer::Count(found))) => {
+                if let Ok(found) = u32::try_from(*found) {
+                    *number = found;
+                }
+            }
+            _ => {}
         }
     }
 
@@ -112,10 +54,13 @@ impl HandleState {
     pub(crate) fn write_maybe_number(&self, status: u8, number: &mut u32)
         ensures { number.new ≡ maybe_number_out (answer_of_status self.now status) number.old }
     {
-        if status == HP_OK
-            && let Some(Reply::Brief(Brief::MaybeNumber(found))) = &self.reply
-        {
-            *number = number_or_null(*found);
+        if status != HP_OK {
+            return;
+        }
+        match &self.reply {
+            Some(Reply::Brief(Brief::MaybeNumber(Some(found)))) => *number = *found,
+            Some(Reply::Brief(Brief::MaybeNumber(None))) => *number = HP_NONE,
+            _ => {}
         }
     }
 
@@ -124,20 +69,9 @@ impl HandleState {
         ensures { flag.new ≡ flag_out (answer_of_status self.now status) flag.old }
     {
         if status == HP_OK
-            && let Some(Reply::Done(answer)) = &self.reply
+            && let Some(Reply::Done(Answer::Flag(found))) = &self.reply
         {
-            write_flag(answer, flag);
-        }
-    }
-
-    // Writes the relative position of two places: -1, 0 or 1.
-    fn write_order(&self, status: u8, order: &mut i8)
-        ensures { order.new ≡ order_out (answer_of_status self.now status) order.old }
-    {
-        if status == HP_OK
-            && let Some(Reply::Done(answer)) = &self.reply
-        {
-            write_order(answer, order);
+            *flag = flag_number(*found);
         }
     }
 }
@@ -181,11 +115,13 @@ impl Handle {
         ensures told { count.new ≡ count_out (answer_of_call self.new (as_answered result)) count.old }
     {
         let status = self.read(question);
-        if self.is_open {
-            self.slot
-                .lend()
-                .kept
-                .write_count(as_answered(status), count);
+        if self.is_open && as_answered(status) == HP_OK {
+            let kept = &self.slot.lend().kept;
+            match &kept.reply {
+                Some(Reply::Brief(Brief::Number(found))) => *count = *found as usize,
+                Some(Reply::Done(Answer::Count(found))) => *count = *found,
+                _ => {}
+            }
         }
         status
     }
@@ -214,8 +150,11 @@ impl Handle {
         ensures told { order.new ≡ order_out (answer_of_call self.new result) order.old }
     {
         let status = self.take(command);
-        if self.is_open {
-            self.slot.lend().kept.write_order(status, order);
+        if self.is_open && status == HP_OK {
+            let kept = &self.slot.lend().kept;
+            if let Some(Reply::Done(Answer::Order(found))) = &kept.reply {
+                *order = order_number(*found);
+            }
         }
         status
     }

@@ -1,7 +1,7 @@
 -- What is whole after steps that keep numbers, labels and node documents.
 use Rattle.std.proofs.Common.{◌≡◌, ℕ, ◌+◌, ◌-◌, ◌≤◌, min, true, List, length, refl, ap, sym, ◌∙◌, subst, arith}
 use Rattle.dom_model.specs.declared.Kind.TheVariants.{Document}
-use Rattle.dom_model.specs.Definitions.{is_kind, is_character_data, Node, Forest, Grove, empty, node, occurs, entry_in, with_node, HasOneDocument, IsInDocument, Content, IsSound, spliced, map_ranges, after_splice, kind_passes, is_of_kind, content_in, data_of, with_data, replace_units, cut_count, data_record, replace_data, set_data, attributes_of, with_attributes, set_attribute, has_attribute, remove_attribute_if, Attribute, with_attribute, without_attribute, HasOwners, IsOwned}
+use Rattle.dom_model.specs.Definitions.{is_kind, is_character_data, Node, Forest, Grove, empty, node, occurs, entry_in, with_node, HasOneDocument, IsInDocument, Content, IsSound, spliced, map_ranges, after_splice, kind_passes, is_of_kind, content_in, data_of, with_data, replace_units, cut_count, data_record, replace_data, set_data, attributes_of, with_attributes, attribute_record, set_attribute, has_attribute, remove_attribute_if, Attribute, with_attribute, without_attribute, HasOwners, IsOwned}
 use Rattle.dom_model.specs.Worlds.World as model
 use Rattle.dom_model.proofs.Soundness.{SoundData.sound-replace_units, SoundData.sound-set_attribute, SoundData.sound-remove_attribute, SoundWorlds.statics-kept}
 use Rattle.dom_ranges.specs.Tables.{RangeTable}
@@ -9,7 +9,7 @@ use Rattle.dom_model.proofs.PlainLists.Numbers.{same_or, same, apart}
 use Rattle.dom_model.proofs.Worlds.SameShape.{bare_node, with_node-alike, kind-alike, occurs-alike}
 use Rattle.dom_model.proofs.RangesAndContents.RangesSpliced.{there-alike}
 use Rattle.dom_edit.specs.{declared.world.World.World, Whole.CoversHeld, Whole.IsWhole, Whole.Keeps, Whole.Follows, Whole.unwatched}
-use Rattle.dom_observe.specs.Watchers.{Watches}
+use Rattle.dom_observe.specs.Watchers.{Watchers, Watches}
 use Rattle.dom_observe.proofs.NamesHeldLemmas.{held-kept}
 use Rattle.std.proofs.lemmas.Bool.Decides.{nat_tests}
 use Rattle.dom_edit.proofs.{FollowsLemmas.whole-sound, CoversHeldLemmas.covered-kept}
@@ -120,6 +120,22 @@ module _ (old told new : World) (n : ℕ) (name : List ℕ) (h : IsWhole told) (
   whole-set_attribute value tree =
       whole-attributes (with_attribute name value (attributes_of (unwatched told) n)) (set_attribute n name value (unwatched told))
       (sound-set_attribute n name value (unwatched told) (sound-unwatched told h)) refl refl refl refl refl refl tree
+
+  -- the attribute is set after its record was queued
+  pub follows-set_attribute : (value : List ℕ) → Follows old told (attribute_record n name) → new.tree ≡ record told.tree { forest = with_node n (with_attributes (with_attribute name value (attributes_of (unwatched told) n))) told.tree.forest } → Follows old new (set_attribute n name value)
+  follows-set_attribute value f tree = record {
+    keeps = λ w k.
+        let t = f.keeps w k in
+        record {
+          forest = ap (λ (g : Forest Content). with_node n (with_attributes (with_attribute name value (content_in (entry_in g n)).attributes)) g) t.forest ∙ sym (ap (λ (g : Grove Content). g.forest) tree);
+          made = t.made ∙ sym (ap (λ (g : Grove Content). g.made) tree);
+          ranges = t.ranges ∙ sym (ap (λ (t : RangeTable). t.ranges) ranges);
+          static_ranges = t.static_ranges ∙ sym statics;
+          iterators = t.iterators ∙ sym iterators;
+          walkers = t.walkers ∙ sym walkers;
+        };
+    watches = λ w k o. subst (λ (x : Watchers). Watches x (attribute_record n name w).observing) (sym observers) (f.watches w k o);
+  }
 
   pub whole-remove_attribute : has_attribute (unwatched old) n name ≡ true → new.tree ≡ record told.tree { forest = with_node n (with_attributes (without_attribute name (attributes_of (unwatched told) n))) told.tree.forest } → IsWhole new
   whole-remove_attribute there tree =

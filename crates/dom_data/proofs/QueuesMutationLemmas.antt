@@ -1,9 +1,11 @@
 -- A change that observers were told of, as a step of the world.
 use Rattle.std.specs.{Borrow.Bor, Option.option_copied}
-use Rattle.std.proofs.Common.{◌≡◌, ℕ, List, Option, Some, None, refl, ap, sym, ◌∙◌, subst}
+use Rattle.std.proofs.Common.{◌≡◌, ◌==◌, ℕ, true, List, [], ◌∷◌, ◌++◌, length, Bool, Option, Some, None, refl, ap, sym, ◌∙◌, subst, append-nil, arith, filter_map}
+use Rattle.std.proofs.lemmas.Bool.{eqb-true}
+use Rattle.std.specs.Map.{keys_of}
 use Rattle.dom_model.specs.declared.RecordType.{RecordType}
-use Rattle.dom_model.specs.Definitions.{Forest, ancestors, Content, queued, noted, standing_on}
-use Rattle.dom_observe.specs.{Names.given_name, Watchers.Watches}
+use Rattle.dom_model.specs.Definitions.{Forest, ancestors, Content, Mutation, with_all_last, queued, noted, standing_on}
+use Rattle.dom_observe.specs.{Names.given_name, Interested.listener_of, Interested.flag_of, Interested.delivered, Undoing.standing_at, Undoing.heard_at, Undoing.IsQueued, Watchers.Watchers, Watchers.on, Watchers.records_at, Watchers.Watches}
 use Rattle.dom_edit.specs.{declared.world.World.World, Whole.Follows}
 use Rattle.dom_data.specs.Changes.{change_of, QueuesMutation}
 
@@ -25,3 +27,26 @@ follows-told old new what target name value e tells = record {
 pub lent-text : (o : Option (Bor (List ℕ))) → option_copied o ≡ given_name o
 lent-text None = refl
 lent-text (Some text) = refl
+
+-- if nobody observes, nobody gets a record
+none-stand : (ns : List ℕ) (o : Watchers) → o.nodes ≡ [] → standing_at ns o ≡ []
+none-stand [] o none = refl
+none-stand (n ∷ ns) o none = ap (λ nodes. on n nodes ++ standing_at ns o) none ∙ none-stand ns o none
+
+none-heard : (ns : List ℕ) (m : Mutation) (o : Watchers) → o.nodes ≡ [] → heard_at ns m o ≡ []
+none-heard ns m o none = ap (filter_map (listener_of m.type m.target m.name)) (none-stand ns o none)
+
+no-nodes : {A : Type 0} (xs : List A) → (length xs == 0) ≡ true → xs ≡ []
+no-nodes [] e = refl
+no-nodes (x ∷ xs) e = let none = eqb-true (length (x ∷ xs)) 0 e in absurd (omega arith)
+
+pub queued-unheard : (ns : List ℕ) (m : Mutation) (o : Watchers) → (length o.nodes == 0) ≡ true → IsQueued ns m o o
+queued-unheard ns m o idle =
+    let nobody = none-heard ns m o (no-nodes o.nodes idle) in
+    record {
+      nodes = refl;
+      made = refl;
+      there = λ i. refl;
+      records = λ i. sym (ap (λ ls. records_at o.queues i ++ delivered m (flag_of i ls)) nobody ∙ append-nil (records_at o.queues i));
+      pending = sym (ap (λ (ls : List (ℕ × Bool)). with_all_last o.pending (keys_of ls)) nobody);
+    }

@@ -5,10 +5,10 @@ ghost use Rattle.dom_model.specs.declared.Kind.TheVariants.{Element};
 ghost use Rattle.dom_model.specs.Forests.Nodes.{is_of_kind};
 ghost use Rattle.dom_model.specs.DataAndCopies.Data.{set_attribute, remove_attribute, toggle_attribute, has_attribute, is_toggled_on};
 ghost use Rattle.dom_observe.specs.ObservedNodes.{SameObservers};
-ghost use Rattle.dom_edit.specs.Whole.{IsWhole, IsUnobserved, Follows, unwatched};
+ghost use Rattle.dom_edit.specs.Whole.{IsWhole, Follows, unwatched};
 
 use crate::bodies::{has_in, remove_in, set_in};
-use crate::records::queue_attribute_record;
+use crate::records::{queue_attribute_record, unqueue_attribute_record};
 use dom_edit::World;
 use dom_tree::NodeId;
 use dom_units::Units;
@@ -28,13 +28,41 @@ pub fn set_attribute(
     requires kind { is_of_kind Element world.old.tree.forest node ≡ true }
     ensures set { OnOk result (Follows world.old world.new
         (set_attribute node (string_bytes name) value)) }
-    ensures kept { OnErr result (world.new ≡ record world.old { observers = world.new.observers }) }
-    ensures unchanged { IsUnobserved world.old → OnErr result (world.new ≡ world.old) }
+    ensures unchanged { OnErr result (world.new ≡ world.old) }
     ensures observers { SameObservers world.old.observers world.new.observers }
     ensures whole { IsWhole world.new }
 {
-    queue_attribute_record(world, node, name.as_str())?;
-    set_in(&mut world.tree, alloc, node, name, value)
+    if world.observers.is_idle() {
+        return set_in(&mut world.tree, alloc, node, name, value);
+    }
+    set_observed(world, alloc, node, name, value)
+}
+
+// Sets an attribute as `set_attribute` does, if somebody observes. A copy of its name is kept for a record that has to be taken back.
+fn set_observed(
+    world: &mut World,
+    alloc: Global,
+    node: NodeId,
+    name: String,
+    value: Units,
+) -> Result<(), AllocError>
+    requires whole { IsWhole world.old }
+    requires kind { is_of_kind Element world.old.tree.forest node ≡ true }
+    ensures set { OnOk result (Follows world.old world.new
+        (set_attribute node (string_bytes name) value)) }
+    ensures unchanged { OnErr result (world.new ≡ world.old) }
+    ensures observers { SameObservers world.old.observers world.new.observers }
+    ensures whole { IsWhole world.new }
+{
+    let copy = String::from_str(alloc, name.as_str())?;
+    let told = copy.as_str();
+    let pending = world.observers.pending_count();
+    queue_attribute_record(world, node, told)?;
+    if let Err(error) = set_in(&mut world.tree, alloc, node, name, value) {
+        unqueue_attribute_record(world, node, told, pending);
+        return Err(error);
+    }
+    Ok(())
 }
 
 /// Removes an attribute and queues a record of its value; does nothing if it is absent ("remove an attribute by name").
@@ -42,8 +70,7 @@ pub fn remove_attribute(world: &mut World, node: NodeId, name: &str) -> Result<(
     requires whole { IsWhole world.old }
     requires kind { is_of_kind Element world.old.tree.forest node ≡ true }
     ensures removed { OnOk result (Follows world.old world.new (remove_attribute node name.now)) }
-    ensures kept { OnErr result (world.new ≡ record world.old { observers = world.new.observers }) }
-    ensures unchanged { IsUnobserved world.old → OnErr result (world.new ≡ world.old) }
+    ensures unchanged { OnErr result (world.new ≡ world.old) }
     ensures observers { SameObservers world.old.observers world.new.observers }
     ensures whole { IsWhole world.new }
 {
@@ -71,8 +98,7 @@ pub fn toggle_attribute(
         (has_attribute (unwatched world.old) node (string_bytes name))) }
     ensures toggled { OnOk result (Follows world.old world.new
         (toggle_attribute node (string_bytes name) force)) }
-    ensures kept { OnErr result (world.new ≡ record world.old { observers = world.new.observers }) }
-    ensures unchanged { IsUnobserved world.old → OnErr result (world.new ≡ world.old) }
+    ensures unchanged { OnErr result (world.new ≡ world.old) }
     ensures observers { SameObservers world.old.observers world.new.observers }
     ensures whole { IsWhole world.new }
 {

@@ -6,14 +6,14 @@ ghost use Rattle.dom_model.specs.Forests.Kinds.{is_character_data};
 ghost use Rattle.dom_model.specs.Forests.Nodes.{kind_passes};
 ghost use Rattle.dom_model.specs.DataAndCopies.Data.{data_of, data_record, replace_units, check_offset, replace_data, set_data, substring_data};
 ghost use Rattle.dom_model.specs.TokenText.Edits.{replace_data_edits, set_data_edits};
-ghost use Rattle.dom_edit.specs.Whole.{IsWhole, IsUnobserved, Follows, unwatched};
+ghost use Rattle.dom_edit.specs.Whole.{IsWhole, Follows, unwatched};
 ghost use Rattle.dom_edit.specs.Markers.{StandByEdits};
 ghost use Rattle.dom_edit.specs.Refusals.{IsRefused};
 ghost use Rattle.dom_data.specs.SubstringRefusal.{IsNamed};
 ghost use Rattle.dom_data.specs.KeptNumbers.{KeepsNumbers};
 
 use crate::bodies::splice_data;
-use crate::records::queue_data_record;
+use crate::records::{queue_data_record, unqueue_data_record};
 use dom_edit::{Refusal, World, data_in};
 use dom_kinds::DomError;
 use dom_tree::NodeId;
@@ -34,13 +34,16 @@ pub(crate) fn replace_units(
     requires within { offset + count ≤ length (data_of (unwatched world.old) node) }
     ensures replaced { OnOk result (Follows world.old world.new (λ w.
         replace_units node offset count added.now (data_record node w))) }
-    ensures kept { OnErr result (world.new ≡ record world.old { observers = world.new.observers }) }
-    ensures unchanged { IsUnobserved world.old → OnErr result (world.new ≡ world.old) }
+    ensures unchanged { OnErr result (world.new ≡ world.old) }
     ensures nodes { KeepsNumbers world.old world.new }
     ensures whole { IsWhole world.new }
 {
+    let pending = world.observers.pending_count();
     queue_data_record(world, node)?;
-    splice_data(&mut world.tree, alloc, node, offset, count, added)?;
+    if let Err(error) = splice_data(&mut world.tree, alloc, node, offset, count, added) {
+        unqueue_data_record(world, node, pending);
+        return Err(error);
+    }
     world.ranges.spliced(node, offset, count, added.len());
     Ok(())
 }
@@ -65,8 +68,7 @@ pub fn replace_data(
         (replace_data_edits node offset count added.now)) }
     ensures refused { IfErr result (λ e. IsRefused e
         (check_offset (unwatched world.old) node offset) world.old world.new) }
-    ensures left { OnErr result (world.new ≡ record world.old { observers = world.new.observers }) }
-    ensures unchanged { IsUnobserved world.old → OnErr result (world.new ≡ world.old) }
+    ensures unchanged { OnErr result (world.new ≡ world.old) }
     ensures kept { KeepsNumbers world.old world.new }
     ensures whole { IsWhole world.new }
 {
@@ -93,8 +95,7 @@ pub fn replace_data_checked(
         (replace_data node offset count added.now)) }
     ensures markers { OnOk result (StandByEdits world.old world.new
         (replace_data_edits node offset count added.now)) }
-    ensures kept { OnErr result (world.new ≡ record world.old { observers = world.new.observers }) }
-    ensures unchanged { IsUnobserved world.old → OnErr result (world.new ≡ world.old) }
+    ensures unchanged { OnErr result (world.new ≡ world.old) }
     ensures nodes { KeepsNumbers world.old world.new }
     ensures whole { IsWhole world.new }
 {
@@ -115,8 +116,7 @@ pub fn set_data(
     ensures set { OnOk result (Follows world.old world.new (set_data node text.now)) }
     ensures markers { OnOk result (StandByEdits world.old world.new
         (set_data_edits node text.now)) }
-    ensures kept { OnErr result (world.new ≡ record world.old { observers = world.new.observers }) }
-    ensures unchanged { IsUnobserved world.old → OnErr result (world.new ≡ world.old) }
+    ensures unchanged { OnErr result (world.new ≡ world.old) }
     ensures nodes { KeepsNumbers world.old world.new }
     ensures whole { IsWhole world.new }
 {

@@ -1,11 +1,11 @@
 -- Where one child of a kind stands, told by its place among the children.
-use Rattle.std.proofs.Common.{nat_lt, nat_eq, if◌then◌else◌, not, ◌||◌, ◌≡◌, ℕ, ◌+◌, ◌<◌, ◌≤◌, Bool, true, false, IfSome, List, [], ◌∷◌, Option, Some, None, refl, ap, sym, ◌∙◌, arith}
+use Rattle.std.proofs.Common.{nat_lt, nat_eq, if◌then◌else◌, not, ◌≡◌, ℕ, ◌+◌, ◌≤◌, Bool, true, false, IfSome, List, [], ◌∷◌, Option, Some, None, refl, ap, sym, ◌∙◌, arith}
 use Rattle.std.proofs.lemmas.Bool.Decides.{nat_tests}
-use Rattle.dom_model.specs.declared.{Kind.Kind, Kind.TheVariants.Element, Kind.TheVariants.DocumentType}
-use Rattle.dom_model.specs.Definitions.{hits, place_in, past, up_to, Forest, Grove, IsForest, children_of, parent_of, index_of, has_kind, count_kind, is_of_kind}
+use Rattle.dom_model.specs.declared.{Kind.Kind}
+use Rattle.dom_model.specs.Definitions.{hits, place_in, past, up_to, Forest, children_of, parent_of, index_of, has_kind, count_kind, is_of_kind}
 use Rattle.dom_model.proofs.PlainLists.Numbers.{same_or, same, apart}
 use Rattle.dom_model.proofs.Forests.Indices.{index-child}
-use Rattle.dom_edit.specs.{declared.insertion_point.InsertionPoint.InsertionPoint, declared.insertion_point.InsertionPoint.TheVariants.Before, declared.insertion_point.InsertionPoint.TheVariants.Instead, InsertionPoints.child_of, InsertionPoints.IsUnder, InsertionPoints.refuses, InsertionPoints.children_ahead, InsertionPoints.count_around}
+use Rattle.dom_edit.specs.{declared.insertion_point.InsertionPoint.InsertionPoint, InsertionPoints.child_of, InsertionPoints.IsUnder, InsertionPoints.children_ahead}
 use Rattle.dom_edit.proofs.{IsAmongLemmas.count_kind-cons, IsAmongLemmas.has_kind-count, InsertionPointLemmas.child-under, CountAroundLemmas.count-split}
 
 -- a number stands ahead of another in a list where its place is before the other's

@@ -5,9 +5,9 @@
 ghost use Rattle.std.specs.Prelude.{◌≡◌, [], ◌∷◌, true, false, None, OnOk, OnErr};
 ghost use Rattle.std.specs.Option.{ForSome};
 ghost use Rattle.std.specs.Result.{IfErr};
-ghost use Rattle.dom_model.specs.declared.Kind.TheVariants.{Document};
+ghost use Rattle.dom_model.specs.declared.Kind.TheVariants.{Document, DocumentFragment};
 ghost use Rattle.dom_model.specs.Forests.Kinds.{may_be_parent};
-ghost use Rattle.dom_model.specs.Forests.Forest.{HasNode};
+ghost use Rattle.dom_model.specs.Forests.Forest.{HasNode, parent_of};
 ghost use Rattle.dom_model.specs.MutationAlgorithms.Checks.{check_insert, check_replace};
 ghost use Rattle.dom_model.specs.Forests.Nodes.{is_of_kind, kind_passes};
 ghost use Rattle.dom_model.specs.MutationAlgorithms.Editing.{remove, insert, pre_insert, append, replace, replace_all, adopt};
@@ -52,6 +52,8 @@ impl World {
         ensures refused { IfErr result (λ e. IsRefused e
             (check_insert self.old.tree.forest parent node child) self.old self.new) }
         ensures unchanged { IsUnobserved self.old → OnErr result (self.new ≡ self.old) }
+        ensures alone { is_of_kind DocumentFragment self.old.tree.forest node ≡ false →
+            parent_of self.old.tree.forest node ≡ None → OnErr result (self.new ≡ self.old) }
         ensures kept { KeepsNodes self.old self.new }
         ensures whole { IsWhole self.new }
     {
@@ -80,6 +82,8 @@ impl World {
         ensures refused { IfErr result (λ e. IsRefused e
             (check_insert self.old.tree.forest parent node child) self.old self.new) }
         ensures unchanged { IsUnobserved self.old → OnErr result (self.new ≡ self.old) }
+        ensures alone { is_of_kind DocumentFragment self.old.tree.forest node ≡ false →
+            parent_of self.old.tree.forest node ≡ None → OnErr result (self.new ≡ self.old) }
         ensures kept { KeepsNodes self.old self.new }
         ensures whole { IsWhole self.new }
     {
@@ -107,6 +111,8 @@ impl World {
         ensures markers { OnOk result (StandByEdits self.old self.new
             (pre_insert_edits node parent child)) }
         ensures unchanged { IsUnobserved self.old → OnErr result (self.new ≡ self.old) }
+        ensures alone { is_of_kind DocumentFragment self.old.tree.forest node ≡ false →
+            parent_of self.old.tree.forest node ≡ None → OnErr result (self.new ≡ self.old) }
         ensures kept { KeepsNodes self.old self.new }
         ensures whole { IsWhole self.new }
     {
@@ -131,6 +137,8 @@ impl World {
         ensures markers { OnOk result (StandByEdits self.old self.new
             (insert_edits node parent child)) }
         ensures unchanged { IsUnobserved self.old → OnErr result (self.new ≡ self.old) }
+        ensures alone { is_of_kind DocumentFragment self.old.tree.forest node ≡ false →
+            parent_of self.old.tree.forest node ≡ None → OnErr result (self.new ≡ self.old) }
         ensures kept { KeepsNodes self.old self.new }
         ensures whole { IsWhole self.new }
     {
@@ -179,6 +187,8 @@ impl World {
         ensures refused { IfErr result (λ e. IsRefused e
             (check_insert self.old.tree.forest parent node None) self.old self.new) }
         ensures unchanged { IsUnobserved self.old → OnErr result (self.new ≡ self.old) }
+        ensures alone { is_of_kind DocumentFragment self.old.tree.forest node ≡ false →
+            parent_of self.old.tree.forest node ≡ None → OnErr result (self.new ≡ self.old) }
         ensures kept { KeepsNodes self.old self.new }
         ensures whole { IsWhole self.new }
     {
@@ -284,11 +294,9 @@ impl World {
             ≡ None) }
         ensures removed { OnOk result (Follows self.old self.new (remove false child)) }
         ensures markers { OnOk result (StandByEdits self.old self.new (remove_edits child)) }
-        ensures stays { OnErr result (self.new ≡ record self.old
-            { observers = self.new.observers }) }
         ensures refused { IfErr result (λ e. IsRefused e
             (check_remove_child self.old.tree.forest parent child) self.old self.new) }
-        ensures unchanged { IsUnobserved self.old → OnErr result (self.new ≡ self.old) }
+        ensures unchanged { OnErr result (self.new ≡ self.old) }
         ensures kept { KeepsNodes self.old self.new }
         ensures whole { IsWhole self.new }
     {
@@ -301,15 +309,13 @@ impl World {
 
     /// Removes a node from its parent; a root stays as it is (remove).
     ///
-    /// Takes memory for observers alone. After an error the node is where it was, and some observers may have a record of its removal.
+    /// Takes memory for observers alone. After an error nothing has changed.
     pub fn remove(&mut self, node: NodeId) -> Result<(), AllocError>
         requires whole { IsWhole self.old }
         requires held { HasNode self.old.tree.forest node }
         ensures removed { OnOk result (Follows self.old self.new (remove false node)) }
-        ensures stays { OnErr result (self.new ≡ record self.old
-            { observers = self.new.observers }) }
         ensures markers { OnOk result (StandByEdits self.old self.new (remove_edits node)) }
-        ensures unchanged { IsUnobserved self.old → OnErr result (self.new ≡ self.old) }
+        ensures unchanged { OnErr result (self.new ≡ self.old) }
         ensures kept { KeepsNodes self.old self.new }
         ensures whole { IsWhole self.new }
     {
@@ -389,7 +395,7 @@ impl World {
         ensures markers { OnOk result (StandByEdits self.old self.new (adopt_edits node)) }
         ensures refused { IfErr result (λ e. IsRefused e (check_adopt self.old.tree.forest node)
             self.old self.new) }
-        ensures unchanged { IsUnobserved self.old → OnErr result (self.new ≡ self.old) }
+        ensures unchanged { OnErr result (self.new ≡ self.old) }
         ensures kept { KeepsNodes self.old self.new }
         ensures whole { IsWhole self.new }
     {

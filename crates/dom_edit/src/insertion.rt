@@ -143,8 +143,7 @@ impl World {
         requires ready { IsOpen self.old.tree.forest parent child nodes.now }
         ensures inserted { OnOk result (Follows self.old self.new
             (insert_all suppressed parent child nodes.now)) }
-        ensures stays { OnErr result (self.new ≡ record self.old
-            { observers = self.new.observers }) }
+        ensures err { OnErr result (self.new ≡ self.old) }
         ensures succeeds { IsUnobserved self.old → IsOk result }
         ensures unobserved { IsUnobserved self.old → self.new.observers ≡ self.old.observers }
         ensures left { child ≡ None → LeavesOlder (parent ∷ nodes.now) self.old self.new }
@@ -198,6 +197,7 @@ impl World {
             (insert suppressed node parent child)) }
         ensures succeeds { IsUnobserved self.old → IsOk result }
         ensures unobserved { IsUnobserved self.old → self.new.observers ≡ self.old.observers }
+        ensures alone { parent_of self.old.tree.forest node ≡ None → OnErr result (self.new ≡ self.old) }
         ensures left { child ≡ None → parent_of self.old.tree.forest node ≡ None →
             LeavesOlder (parent ∷ node ∷ []) self.old self.new }
         ensures kept { KeepsNodes self.old self.new }

@@ -103,6 +103,7 @@ impl World {
         requires node_held { HasNode self.old.tree.forest node }
         ensures made { OnOk result (Follows self.old self.new (transients_made node parent)) }
         ensures parts { self.new ≡ record self.old { observers = self.new.observers } }
+        ensures err { OnErr result (self.new ≡ self.old) }
         ensures observers { SameObservers self.old.observers self.new.observers }
         ensures quiet { NamesNoneOf (ancestors parent self.old.tree.forest) self.old.observers →
             self.new ≡ self.old }
@@ -133,6 +134,7 @@ impl World {
         ensures noted { OnOk result (Follows self.old self.new
             (removal_noted node parent previous next)) }
         ensures parts { self.new ≡ record self.old { observers = self.new.observers } }
+        ensures err { OnErr result (self.new ≡ self.old) }
         ensures observers { SameObservers self.old.observers self.new.observers }
         ensures succeeds { IsUnobserved self.old → IsOk result }
         ensures unobserved { IsUnobserved self.old → self.new ≡ self.old }
@@ -160,8 +162,7 @@ impl World {
         requires held { HasNode self.old.tree.forest node }
         ensures removed { OnOk result (Follows self.old self.new (remove suppressed node)) }
         ensures root { parent_of self.old.tree.forest node ≡ None → self.new ≡ self.old }
-        ensures stays { OnErr result (self.new ≡ record self.old
-            { observers = self.new.observers }) }
+        ensures err { OnErr result (self.new ≡ self.old) }
         ensures succeeds { IsUnobserved self.old → IsOk result }
         ensures unobserved { IsUnobserved self.old → self.new.observers ≡ self.old.observers }
         ensures kept { KeepsNodes self.old self.new }

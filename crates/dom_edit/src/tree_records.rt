@@ -1,6 +1,6 @@
 //! Tree records (DOM Standard, "Mutation observers", queue a tree mutation record).
 
-ghost use Rattle.std.specs.Prelude.{◌≡◌, OnOk, IsOk};
+ghost use Rattle.std.specs.Prelude.{◌≡◌, OnOk, OnErr, IsOk};
 ghost use Rattle.std.specs.Option.{ForSome};
 ghost use Rattle.dom_model.specs.Forests.Forest.{HasNode, ancestors};
 ghost use Rattle.dom_model.specs.MutationAlgorithms.Editing.{tree_record};
@@ -17,7 +17,7 @@ use std::alloc::AllocError;
 impl World {
     /// Queues a record of children that were added to a node or removed from it, for each interested observer.
     ///
-    /// Borrows the lists: copies nothing if nobody is interested. After an error some observers may have their record and others not.
+    /// Borrows the lists: copies nothing if nobody is interested.
     pub(crate) fn queue_tree_record<'a>(
         &mut self,
         target: NodeId,
@@ -35,6 +35,7 @@ impl World {
         ensures queued { OnOk result (Follows self.old self.new
             (tree_record target added.now removed.now previous next)) }
         ensures parts { self.new ≡ record self.old { observers = self.new.observers } }
+        ensures err { OnErr result (self.new ≡ self.old) }
         ensures observers { SameObservers self.old.observers self.new.observers }
         ensures quiet { NamesNoneOf (ancestors target self.old.tree.forest) self.old.observers →
             self.new ≡ self.old }

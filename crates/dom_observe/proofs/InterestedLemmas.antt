@@ -1,5 +1,5 @@
 -- Listeners, one after another, and the pending list.
-use Rattle.std.proofs.Common.{◌≡◌, ◌≢◌, is_some, IsSome, ℕ, zero, suc, ◌==◌, Bool, true, false, ◌||◌, if◌then◌else◌, List, [], ◌∷◌, ◌++◌, map, filter, take, Option, None, Some, refl, ap, sym, ◌∙◌, subst, cond, append-nil, nat_eq, unwrap_or, slice_get, filter_map, option_to_list}
+use Rattle.std.proofs.Common.{◌≡◌, ℕ, zero, suc, ◌==◌, Bool, true, false, ◌||◌, if◌then◌else◌, List, [], ◌∷◌, ◌++◌, map, filter, take, Option, None, Some, refl, ap, sym, ◌∙◌, subst, cond, append-nil, nat_eq, unwrap_or, slice_get, filter_map, option_to_list}
 use Rattle.std.specs.{Map.lookup, Map.keys_of, Option.option_and_then, List.AllByRecursion, List.IsDistinct, List.list_any, List.cons_option}
 use Rattle.std.proofs.lemmas.{List.Folds.list_any-append, List.Elements.filter-append, Bool.true≢false}
 use Rattle.indexmap.specs.{IndexSet.insert_key, IndexMap.insert_entry}
@@ -233,29 +233,6 @@ lookup-next p (x ∷ es) (suc i) e u h = go (same_or p x.0) (lookup-next p es i 
         let off : (e.0 == p) ≡ false = swapped e.0 p ∙ ap (λ k. k == e.0) f ∙ apart_keys in
         (rw (t, off) refl, λ on. absurd (true≢false (sym on ∙ off)))
     go (apart ne t) rest = (rw t rest.0, λ on. rw t (rest.1 on))
-
-module _ {A : Type 0} (es : List (ℕ × A)) (i : ℕ) (e : ℕ × A) (unique : IsDistinct nat_eq (keys_of es)) (at : slice_get es i ≡ Some e) where
-  -- the key of that entry is found up to there
-  pub lookup-own : IsSome (lookup (nat_eq e.0) (take (suc i) es))
-  lookup-own = ap is_some (lookup-next e.0 es i e unique at).0 ∙ elim (same_or e.0 e.0) [ same _ t ↦ rw t refl | apart ne _ ↦ absurd (ne refl) ]
-
-  -- a key that was found before is another, and still found
-  pub lookup-before : (p : ℕ) → IsSome (lookup (nat_eq p) (take i es)) → (e.0 ≢ p) × IsSome (lookup (nat_eq p) (take (suc i) es))
-  lookup-before p some =
-      let n = lookup-next p es i e unique at in
-      elim (same_or e.0 p) [
-        | same _ t ↦ absurd (true≢false (sym some ∙ ap is_some (n.1 t)))
-        | apart ne t ↦ (ne, ap is_some n.0 ∙ rw t some)
-      ]
-
-  -- another key was found before
-  pub lookup-other : (p : ℕ) → e.0 ≢ p → IsSome (lookup (nat_eq p) (take (suc i) es)) → IsSome (lookup (nat_eq p) (take i es))
-  lookup-other p ne some =
-      let found : is_some (if e.0 == p then Some e.1 else lookup (nat_eq p) (take i es)) ≡ true = sym (ap is_some (lookup-next p es i e unique at).0) ∙ some in
-      elim (same_or e.0 p) [
-        | same s _ ↦ absurd (ne s)
-        | apart _ t ↦ let k = rw t at found in k
-      ]
 
 -- a map's insertion puts its key last, where it is not there
 pub keys-insert : {A : Type 0} (es : List (ℕ × A)) (k : ℕ) (v : A) → keys_of (insert_entry nat_eq es k v) ≡ with_last (keys_of es) k

@@ -10,7 +10,6 @@ pub mod EndFromLemmas
 pub mod LeftByLemmas
 pub mod EndByNodeLemmas
 pub mod ListAnyLemmas
-pub mod IsFreshLemmas
 pub mod GatherLemmas
 pub mod InterestedLemmas
 pub mod NamesHeldLemmas
@@ -24,6 +23,7 @@ pub mod HaveOnceLemmas
 pub mod ObservedNodesLemmas
 pub mod NamesNodesLemmas
 pub mod NodeKeysLemmas
+pub mod NodeOrderLemmas
 pub mod OriginsLemmas
 pub mod OnceLemmas
 pub mod OrderedLemmas
@@ -34,7 +34,8 @@ pub mod QueueListLemmas
 pub mod QueueRecordLemmas
 pub mod QueueCountLemmas
 pub mod NoneInterestedLemmas
-pub mod IsFrontLemmas
+pub mod GetsTransientsLemmas
+pub mod OneGoneLemmas
 pub mod RegistrationCountLemmas
 pub mod AreRegisteredLemmas
 pub mod ReleaseLemmas
@@ -46,6 +47,7 @@ pub mod HaveSourcesLemmas
 pub mod RegistrationSumLemmas
 pub mod RegistrationTableLemmas
 pub mod TransientLemmas
+pub mod UndoingLemmas
 pub mod TurnLemmas
 pub mod PendingQueueLemmas
 pub mod WatchesLemmas

@@ -1,5 +1,5 @@
 -- The nodes that the records of a queue name, as a set has them.
-use Rattle.std.proofs.Common.{◌≡◌, ℕ, ◌+◌, ◌==◌, Bool, true, false, ◌||◌, if◌then◌else◌, List, ◌∷◌, ◌++◌, length, take, drop, refl, ap, sym, ◌∙◌, nat_eq, arith, length-append, take-append-drop, take_all, drop_of_length-le, flat_map}
+use Rattle.std.proofs.Common.{◌≡◌, ℕ, ◌+◌, ◌==◌, Bool, true, false, ◌||◌, if◌then◌else◌, Option, Some, List, ◌∷◌, ◌++◌, length, take, drop, refl, ap, sym, ◌∙◌, nat_eq, arith, length-append, take-append-drop, take_all, drop_of_length-le, flat_map}
 use Rattle.std.specs.List.{list_any}
 use Rattle.std.proofs.lemmas.{List.Concat.flat_map-append, List.Folds.list_any-append}
 use Rattle.dom_model.specs.Definitions.{among, Record, nodes_of_record}
@@ -44,15 +44,15 @@ any-parts p caught_up rs =
     ∙ ap (list_any p) (flat_map-append nodes_of_record (take caught_up rs) (drop caught_up rs))
     ∙ list_any-append p (flat_map nodes_of_record (take caught_up rs)) (flat_map nodes_of_record (drop caught_up rs))
 
-pub any-caught_up : {S : Type 0} (p : ℕ → Bool) (rs : List Record) (named : IndexSet ℕ S) (caught_up owed : ℕ) → IsCaughtUp rs named caught_up owed
+pub any-caught_up : {S : Type 0} (p : ℕ → Bool) (rs : List Record) (named : IndexSet ℕ S) (caught_up : ℕ) (owed : Option ℕ) → IsCaughtUp rs named caught_up owed
     → list_any p (flat_map nodes_of_record rs) ≡ (list_any p named.keys || list_any (λ r. list_any p (nodes_of_record r)) (drop caught_up rs))
 any-caught_up p rs named caught_up owed s =
     any-parts p caught_up rs
     ∙ (λ i. sym (any-names p (take caught_up rs) named s.first) i || any-flat p nodes_of_record (drop caught_up rs) i)
 
 -- the others are named too
-pub caught_up-all : {S : Type 0} (rs : List Record) (old new : IndexSet ℕ S) (caught_up owed all : ℕ) → IsCaughtUp rs old caught_up owed → all ≡ length rs
-    → ((n : ℕ) → contains nat_eq new n ≡ (contains nat_eq old n || among n (flat_map nodes_of_record (drop caught_up rs)))) → IsCaughtUp rs new all 0
+pub caught_up-all : {S : Type 0} (rs : List Record) (old new : IndexSet ℕ S) (caught_up : ℕ) (owed : Option ℕ) (all : ℕ) → IsCaughtUp rs old caught_up owed → all ≡ length rs
+    → ((n : ℕ) → contains nat_eq new n ≡ (contains nat_eq old n || among n (flat_map nodes_of_record (drop caught_up rs)))) → IsCaughtUp rs new all (Some 0)
 caught_up-all rs old new caught_up owed all s end put = record {
   within = omega (arith, end);
   first = λ n.
@@ -61,7 +61,6 @@ caught_up-all rs old new caught_up owed all s end put = record {
       ∙ sym (parts n)
       ∙ sym (ap (λ l. among n (flat_map nodes_of_record l)) (take_all all rs (omega (arith, end))));
   others = omega (arith, none);
-  room = omega arith;
 }
   where
     none : length (flat_map nodes_of_record (drop all rs)) ≡ 0

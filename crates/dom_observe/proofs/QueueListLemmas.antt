@@ -1,6 +1,6 @@
 -- The queues of observers by their numbers, as one of them changes.
 use Rattle.std.proofs.Common.{◌≡◌, ℕ, zero, suc, ◌-◌, ◌<◌, ◌≤◌, ◌==◌, true, false, if◌then◌else◌, List, [], ◌∷◌, ◌++◌, length, take, Option, None, Some, is_some, refl, ap, sym, ◌∙◌, arith, ◌⊎◌, inl, inr, length-set, slice_index_or, slice_set, unwrap_or}
-use Rattle.std.proofs.lemmas.{Bool.cases_lt, Bool.true≢false, List.get_or_append_left, List.get_or-append_right, List.get_or_past, List.get_or-set_same, List.get_or-set_other}
+use Rattle.std.proofs.lemmas.{Bool.cases_lt, Bool.true≢false, List.get_or_append_left, List.get_or-append_right, List.get_or_past, List.get_or-set_same, List.get_or-set_other, List.ext_get_or}
 use Rattle.dom_model.specs.Definitions.{Record}
 use Rattle.dom_model.proofs.PlainLists.Numbers.{Same, same_or, same, apart}
 use Rattle.dom_observe.specs.{Watchers.queue_at, Watchers.records_at, Invariant.has_queue}
@@ -105,3 +105,13 @@ module _ (queues : List (Option (List Record))) where
           ap (λ (p : Option (List Record)). unwrap_or p []) (get_or-append_right queues (Some [] ∷ []) (length queues) o None refl le)
           ∙ new (o - length queues)
           ∙ sym (ap (λ (p : Option (List Record)). unwrap_or p []) (get_or_past queues o None le))
+
+-- the same observers with the same records
+pub queues-equal : (queues queues' : List (Option (List Record))) → length queues ≡ length queues' → ((i : ℕ) → has_queue queues i ≡ has_queue queues' i) → ((i : ℕ) → records_at queues i ≡ records_at queues' i) → queues ≡ queues'
+queues-equal queues queues' same_length same_there same_records = ext_get_or None queues queues' same_length (λ i within. go (queue_at queues i) (queue_at queues' i) (same_there i) (same_records i))
+  where
+    go : (q r : Option (List Record)) → is_some q ≡ is_some r → unwrap_or q [] ≡ unwrap_or r [] → q ≡ r
+    go None None h e = refl
+    go None (Some r) h e = absurd (true≢false (sym h))
+    go (Some q) None h e = absurd (true≢false h)
+    go (Some q) (Some r) h e = ap (λ v. Some v) e

@@ -1,11 +1,10 @@
 -- What is kept of observers by their numbers, as one of them changes: the keys, and the queues.
-use Rattle.std.proofs.Common.{◌≡◌, ℕ, zero, suc, ◌<◌, true, List, [], ◌∷◌, ◌++◌, length, map, Option, None, Some, is_some, option_map, refl, ap, sym, ◌∙◌, arith, slice_index_or, slice_set, unwrap_or}
+use Rattle.std.proofs.Common.{◌≡◌, ℕ, zero, suc, ◌<◌, true, List, [], ◌∷◌, ◌++◌, length, map, Option, None, Some, is_some, option_map, refl, ap, sym, ◌∙◌, arith, slice_index_or, slice_set}
 use Rattle.std.proofs.Math.ListN.{get_or-map}
 use Rattle.std.proofs.Math.Seq.{map-set_same}
-use Rattle.std.proofs.lemmas.{Bool.true≢false, List.length-map, List.map_push, List.map-set, List.ext_get_or}
-use Rattle.dom_model.specs.Definitions.{Record}
+use Rattle.std.proofs.lemmas.{List.length-map, List.map_push, List.map-set}
 use Rattle.dom_observe.specs.{declared.roster.Observer.Observer, Watchers.queue_at, Invariant.has_queue, Roster.observer_at, Roster.keys_by, Roster.first_keys, Roster.second_keys, Roster.lasting_by, Roster.passing_by, Roster.queues_by, Roster.records_of}
-use Rattle.dom_observe.proofs.{InvariantLemmas.set_same, QueueListLemmas.queue_within}
+use Rattle.dom_observe.proofs.{InvariantLemmas.set_same, QueueListLemmas.queue_within, QueueListLemmas.queues-equal}
 
 -- the keys of one
 abbrev both_keys : Observer → List ℕ × List ℕ
@@ -128,13 +127,7 @@ module _ (old new : List (Option Observer)) (keys : keys_by new ≡ keys_by old)
 
   -- and the same records
   pub queues-alike : ((p : ℕ) → records_of new p ≡ records_of old p) → queues_by new ≡ queues_by old
-  queues-alike same_records = ext_get_or None (queues_by new) (queues_by old) length-same (λ i within. go (queue_at (queues_by new) i) (queue_at (queues_by old) i) (has-same i) (same_records i))
-    where
-      go : (q r : Option (List Record)) → is_some q ≡ is_some r → unwrap_or q [] ≡ unwrap_or r [] → q ≡ r
-      go None None h e = refl
-      go None (Some r) h e = absurd (true≢false (sym h))
-      go (Some q) None h e = absurd (true≢false h)
-      go (Some q) (Some r) h e = ap (λ v. Some v) e
+  queues-alike same_records = queues-equal (queues_by new) (queues_by old) length-same has-same same_records
 
 -- One more observer, without keys.
 no_more : (ls : List (List ℕ)) (i : ℕ) → slice_index_or (ls ++ [] ∷ []) i [] ≡ slice_index_or ls i []

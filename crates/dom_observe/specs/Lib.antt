@@ -1,12 +1,13 @@
 pub mod Borrows
+pub mod GetsTransients
 pub mod Interested
 pub mod Invariant
 pub mod Keys
 pub mod Names
+pub mod NodeOrder
 pub mod Notification
 pub mod ObservedNodes
 pub mod Origins
-pub mod OutOfMemory
 pub mod Queued
 pub mod QueuedNodes
 pub mod Registrations
@@ -14,5 +15,6 @@ pub mod Removal
 pub mod Roster
 pub mod Sound
 pub mod Turns
+pub mod Undoing
 pub mod Watchers
 pub mod WithoutRepeats

@@ -1,5 +1,5 @@
 -- The nodes that observers name: those of their registrations, and those of the records that wait.
-use Rattle.std.specs.Prelude.{◌≡◌, ℕ, ◌≤◌, Bool, false, List, length, take, drop, Option, flat_map, nat_eq}
+use Rattle.std.specs.Prelude.{◌≡◌, ℕ, ◌≤◌, ◌+◌, Bool, false, List, length, take, drop, Option, None, Some, IfSome, flat_map, nat_eq}
 use Rattle.std.specs.Option.{option_map_or}
 use Rattle.std.specs.List.{list_any, AllByRecursion}
 use Rattle.indexmap.specs.IndexSet.{IndexSet, contains, spare}
@@ -29,9 +29,18 @@ RecordsNameOnly these old new = (p : ℕ → Bool) → list_any p these ≡ fals
 abbrev pub NamesNodes : {S : Type 0} → List Record → IndexSet ℕ S → Type 0
 NamesNodes records named = (n : ℕ) → contains nat_eq named n ≡ among n (flat_map nodes_of_record records)
 
--- a set has the numbers of the nodes that the first records name, and room for those of the others
-pub record IsCaughtUp {S : Type 0} (records : List Record) (named : IndexSet ℕ S) (caught_up owed : ℕ) : Type 0 where
+-- a set has the numbers of the nodes that the first records name, and so much room is enough for those of the others, where it is known
+pub record IsCaughtUp {S : Type 0} (records : List Record) (named : IndexSet ℕ S) (caught_up : ℕ) (owed : Option ℕ) : Type 0 where
   pub within : caught_up ≤ length records
   pub first : NamesNodes (take caught_up records) named
-  pub others : length (flat_map nodes_of_record (drop caught_up records)) ≤ owed
-  pub room : owed ≤ spare named
+  pub others : IfSome owed (λ room. length (flat_map nodes_of_record (drop caught_up records)) ≤ room)
+
+-- the room is what is owed, which is known, and some more
+abbrev pub IsRoomWith : Option ℕ → ℕ → ℕ → Type 0
+IsRoomWith None more room = ⊥
+IsRoomWith (Some owed) more room = room ≡ owed + more
+
+-- it is known how much room is owed, and a set has it
+abbrev pub HasRoomFor : {S : Type 0} → Option ℕ → IndexSet ℕ S → Type 0
+HasRoomFor None named = ⊥
+HasRoomFor (Some room) named = room ≤ spare named

@@ -1,6 +1,5 @@
 -- What is kept of each observer, by the number under which it was made: the keys of its registrations, and its queue.
-use Rattle.std.specs.Prelude.{ℕ, ◌<◌, Bool, List, [], length, map, Option, None, Some, option_map, slice_index_or}
-use Rattle.std.specs.Option.{option_map_or}
+use Rattle.std.specs.Prelude.{ℕ, Bool, List, [], map, Option, None, Some, option_map, slice_index_or}
 use Rattle.dom_model.specs.MutationObservers.Record.{Record}
 use Rattle.dom_observe.specs.declared.roster.Observer.{Observer}
 use Rattle.dom_observe.specs.Watchers.{records_at}
@@ -39,10 +38,6 @@ is_there roster = has_queue (queues_by roster)
 -- the records that wait for it
 abbrev pub records_of : List (Option Observer) → ℕ → List Record
 records_of roster i = records_at (queues_by roster) i
-
--- the last record that waits for it was queued since the set of its queue was updated
-abbrev pub IsFresh : List (Option Observer) → ℕ → Type 0
-IsFresh roster i = option_map_or (λ (o : Observer). o.queue.caught_up) (observer_at roster i) 0 < length (records_of roster i)
 
 -- the keys of its transient registrations
 abbrev pub passing_at : List (Option Observer) → ℕ → List ℕ

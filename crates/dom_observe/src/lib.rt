@@ -19,6 +19,7 @@ mod registration_table;
 mod registrations;
 mod roster;
 mod transient_registrations;
+mod undoing;
 
 pub use dom_model::RecordType;
 pub use observer_id::{ObserverId, OfObserver};

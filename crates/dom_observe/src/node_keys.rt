@@ -1,7 +1,9 @@
 //! The keys of a node's registrations, in their order.
 
 ghost use Rattle.std.specs.Prelude.{◌≡◌, ℕ, ◌<◌, ◌==◌, ◌++◌, [], ◌∷◌, length, remove, filter, IfOk, OnOk, OnErr, nat_eq, if◌then◌else◌};
+ghost use Rattle.std.specs.Map.{keys_of};
 ghost use Rattle.indexmap.specs.IndexMap.{IsUnique};
+ghost use Rattle.dom_model.specs.PlainLists.LastOnce.{with_last};
 ghost use Rattle.dom_observe.specs.Watchers.{on};
 ghost use Rattle.dom_observe.specs.Registrations.{in_table, is_live, listed, HaveKeys};
 
@@ -112,6 +114,8 @@ pub(crate) fn put_key(
     requires { IsUnique nat_eq nodes.old }
     ensures ok { OnOk result ((n : ℕ) → on n (listed nodes.new.entries)
         ≡ on n (listed nodes.old.entries) ++ (if n == node then key ∷ [] else [])) }
+    ensures nodes { OnOk result (keys_of (listed nodes.new.entries)
+        ≡ with_last (keys_of (listed nodes.old.entries)) node) }
     ensures err { OnErr result (listed nodes.new.entries ≡ listed nodes.old.entries) }
     ensures full { HaveKeys (listed nodes.old.entries) → HaveKeys (listed nodes.new.entries) }
     ensures unique { IsUnique nat_eq nodes.new }

@@ -1,6 +1,6 @@
 //! The observers of a tree: their registrations, their queues and the pending list.
 
-ghost use Rattle.std.specs.Prelude.{◌≡◌, ℕ, ◌<◌, [], ◌∷◌, ◌++◌, ◌==◌, length, count_by, slice_get, slice_set, Some, None, IsSome, is_some, IfOk, OnOk, OnErr, true, false};
+ghost use Rattle.std.specs.Prelude.{◌≡◌, ℕ, ◌<◌, ◌≤◌, [], ◌∷◌, ◌++◌, ◌==◌, length, count_by, slice_get, slice_set, Some, None, IsSome, is_some, IfOk, OnOk, OnErr, true, false};
 ghost use Rattle.dom_model.specs.Forests.Forest.{HasNode, ancestors, inclusive_descendants};
 ghost use Rattle.dom_model.specs.PlainLists.Lists.{among};
 ghost use Rattle.dom_model.specs.MutationAlgorithms.Discarding.{observed_nodes};
@@ -11,9 +11,9 @@ ghost use Rattle.dom_observe.specs.ObservedNodes.{referred_nodes, nodes_of_mutat
 ghost use Rattle.std.specs.List.{list_any};
 ghost use Rattle.dom_observe.specs.Notification.{waiting_in, IsNotified};
 ghost use Rattle.dom_observe.specs.WithoutRepeats.{once};
-ghost use Rattle.dom_observe.specs.OutOfMemory.{IsPartlyLeft, IsPartlyRemoved};
 ghost use Rattle.dom_observe.specs.Removal.{removed_below};
 ghost use Rattle.dom_observe.specs.Sound.{AreSoundWatchers};
+ghost use Rattle.dom_observe.specs.Undoing.{IsQueued};
 ghost use Rattle.dom_observe.specs.Watchers.{queue_in, records_at, registrations_in, Watches, StepsObserving, AnswersQuestion};
 
 use crate::filter::Interests;
@@ -27,7 +27,9 @@ use crate::record::{Mutation, Notification, Record};
 use crate::registration::{EndedRegistrations, Ending, Lifetime, Registration};
 use crate::registrations::Registrations;
 use crate::roster::Roster;
-use crate::transient_registrations::{add_transients, find_standing, find_standing_deep};
+use crate::transient_registrations::{
+    add_transients, end_added, find_standing, find_standing_deep,
+};
 use dom_tree::{NodeId, Tree};
 use indexmap::IndexSet;
 use std::alloc::{AllocError, Global};
@@ -40,14 +42,14 @@ use std::rc::Rc;
 /// buffer for registrations above a node is kept from one change to the next.
 #[derive(Drop)]
 pub struct Observers {
-    registrations: Registrations,
+    pub(crate) registrations: Registrations,
     // state of each observer
-    roster: Roster,
+    pub(crate) roster: Roster,
     // the observers that may have transient registrations
     fleeting: IndexSet<ObserverId>,
-    pending: IndexSet<ObserverId>,
-    // observers that were taken from the pending list and not notified since: records may wait for them too
-    untold: IndexSet<ObserverId>,
+    pub(crate) pending: IndexSet<ObserverId>,
+    // observers that left the pending list and were not notified since: records may wait for them too. There is room for all that are pending.
+    pub(crate) untold: IndexSet<ObserverId>,
     // buffer for the keys of the registrations above a node, reused by the next change
     standing: Vec<usize>,
     alloc: Global,
@@ -61,6 +63,8 @@ impl Model for Observers {
     ghost use Rattle.dom_observe.specs.Registrations.{at, HaveSources, Agree};
     ghost use Rattle.dom_observe.specs.Invariant.{registered_nodes, has_queue, HoldsInvariant, IsIndexed, IsAwaited};
     ghost use Rattle.dom_observe.specs.Roster.{lasting_by, passing_by, queues_by};
+    ghost use Rattle.std.specs.Prelude.{◌≤◌, length};
+    ghost use Rattle.indexmap.specs.IndexSet.{spare};
 
     ghost view = { λ o. record {
       nodes = registered_nodes o.registrations;
@@ -70,7 +74,8 @@ impl Model for Observers {
 
     ghost invariant = { λ o. HoldsInvariant o.registrations (queues_by o.roster) o.pending.keys
         × IsIndexed (at o.registrations) (lasting_by o.roster) (passing_by o.roster) o.fleeting.keys (has_queue (queues_by o.roster))
-        × HaveSources (at o.registrations) × Agree (at o.registrations) × IsAwaited (queues_by o.roster) o.pending.keys o.untold.keys };
+        × HaveSources (at o.registrations) × Agree (at o.registrations) × IsAwaited (queues_by o.roster) o.pending.keys o.untold.keys
+        × (length o.pending.keys ≤ spare o.untold) };
 }
 
 impl Observers {
@@ -156,6 +161,13 @@ impl Observers {
         ensures { result ≡ slice_get self.now.pending index }
     {
         self.pending.get_index(index).copied()
+    }
+
+    /// Returns how many observers are pending.
+    pub fn pending_count(&self) -> usize
+        ensures { result ≡ length self.now.pending }
+    {
+        self.pending.len()
     }
 
     /// Registers an observer at a node, or replaces its registration there ("observe").
@@ -267,8 +279,7 @@ impl Observers {
 
     /// Adds transient registrations to a node that is removed from its parent, for those with subtree at the parent's inclusive ancestors ("remove").
     ///
-    /// None is added that equals another of the node. After an error some may be missing; if no observer is registered at those ancestors, nothing
-    /// has changed.
+    /// None is added that equals another of the node. After an error nothing has changed, nor if no observer is registered at those ancestors.
     pub fn transients<X>(
         &mut self,
         tree: &Tree<X>,
@@ -278,7 +289,7 @@ impl Observers {
         requires { HasNode tree.now.forest parent }
         ensures left { OnOk result ((x : Observing) → Watches self.old x →
             Watches self.new (with_transients node (ancestors parent tree.now.forest) x)) }
-        ensures partly { OnErr result (IsPartlyLeft node self.old self.new) }
+        ensures err { OnErr result (self.new ≡ self.old) }
         ensures names { NamesOnly (node ∷ []) self.old self.new }
         ensures made { SameObservers self.old self.new }
         ensures quiet { NamesNoneOf (ancestors parent tree.now.forest) self.old →
@@ -316,6 +327,8 @@ impl Observers {
         ensures made { SameObservers self.old self.new }
         ensures quiet { NamesNoneOf (ancestors mutation.now.target tree.now.forest) self.old →
             self.new ≡ self.old }
+        ensures own { OnOk result (IsQueued (ancestors mutation.now.target tree.now.forest)
+            mutation.now self.old self.new) }
     {
         if self.registrations.is_empty() {
             return Ok(());
@@ -330,6 +343,7 @@ impl Observers {
             self.standing.as_slice(),
             &mut self.roster,
             &mut self.pending,
+            &mut self.untold,
             mutation,
             self.alloc,
         )
@@ -338,8 +352,7 @@ impl Observers {
     /// Adds transient registrations to a node that was removed from its parent, and then queues a record for each interested observer: `transients`
     /// and then `queue_record`, with one climb from the parent, which is the mutation's target.
     ///
-    /// Call it after the removal. After an error some transient registrations or records may be missing; if no observer is registered at the parent's
-    /// inclusive ancestors, nothing has changed.
+    /// Call it after the removal. After an error nothing has changed, nor if no observer is registered at the parent's inclusive ancestors.
     pub fn removed<X>(
         &mut self,
         tree: &Tree<X>,
@@ -351,7 +364,7 @@ impl Observers {
         ensures removed { OnOk result (StepsObserving
             (removed_below node (ancestors mutation.now.target tree.now.forest) mutation.now)
             self.old self.new) }
-        ensures partly { OnErr result (IsPartlyRemoved node mutation.now self.old self.new) }
+        ensures err { OnErr result (self.new ≡ self.old) }
         ensures names { NamesOnly (node ∷ nodes_of_mutation mutation.now) self.old self.new }
         ensures made { SameObservers self.old self.new }
         ensures quiet { NamesNoneOf (ancestors mutation.now.target tree.now.forest) self.old →
@@ -365,6 +378,7 @@ impl Observers {
         if self.standing.is_empty() {
             return Ok(());
         }
+        let count = self.registrations.keys_on(node).len();
         add_transients(
             &mut self.registrations,
             &mut self.roster,
@@ -373,14 +387,19 @@ impl Observers {
             node,
             self.alloc,
         )?;
-        queue_for_interested(
+        if let Err(error) = queue_for_interested(
             &self.registrations,
             self.standing.as_slice(),
             &mut self.roster,
             &mut self.pending,
+            &mut self.untold,
             mutation,
             self.alloc,
-        )
+        ) {
+            end_added(&mut self.registrations, &mut self.roster, node, count);
+            return Err(error);
+        }
+        Ok(())
     }
 
     /// Returns the records of the pending observers, and ends every transient registration ("notify mutation observers").

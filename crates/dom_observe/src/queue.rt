@@ -1,8 +1,9 @@
 //! The records that wait for an observer, and the set of nodes in them.
 
-ghost use Rattle.std.specs.Prelude.{◌≡◌, ℕ, ◌+◌, ◌-◌, ◌<◌, ◌≤◌, ◌==◌, ◌||◌, [], ◌∷◌, ◌++◌, length, take, nat_eq, flat_map, OnOk, OnErr};
+ghost use Rattle.std.specs.Prelude.{◌≡◌, ℕ, ◌+◌, ◌-◌, ◌<◌, ◌≤◌, ◌==◌, ◌||◌, [], ◌∷◌, ◌++◌, length, take, nat_eq, true, flat_map, option_map, IfSome, OnOk, OnErr};
 ghost use Rattle.std.specs.List.{list_any};
-ghost use Rattle.indexmap.specs.IndexSet.{contains, spare};
+ghost use Rattle.indexmap.specs.IndexSet.{contains, spare, IsUnchanged};
+ghost use Rattle.dom_observe.specs.QueuedNodes.{IsRoomWith, HasRoomFor};
 ghost use Rattle.dom_model.specs.PlainLists.Lists.{among};
 ghost use Rattle.dom_model.specs.Forests.Forest.{HasNode, inclusive_descendants};
 ghost use Rattle.dom_model.specs.MutationAlgorithms.Discarding.{if_any, nodes_of_record};
@@ -25,8 +26,8 @@ pub struct Queue {
     named: IndexSet<u32>,
     // how many records these are
     caught_up: usize,
-    // room reserved in the set for the nodes in the other records
-    owed: usize,
+    // room that the set needs for the nodes in the other records; none if it is not known
+    owed: Option<usize>,
 }
 
 impl Model for Queue {
@@ -53,41 +54,49 @@ impl Queue {
             records: Vec::new(alloc),
             named: IndexSet::new(alloc),
             caught_up: 0,
-            owed: 0,
+            owed: Some(0),
         }
     }
 
     // Appends a record, and reserves room for its nodes in the set, to which `flush_pending` adds them.
     pub fn push(&mut self, told: Record) -> Result<(), AllocError>
         ensures ok { OnOk result (self.new.records ≡ self.old.records ++ told ∷ []) }
-        ensures fresh { OnOk result (self.new.caught_up < length self.new.records) }
         ensures err { OnErr result (self.new ≡ self.old) }
     {
-        let owed = self.owed.checked_add(room_for(&told)).ok_or(AllocError)?;
+        let owed = with_room_for(self.owed, &told);
         self.records.reserve(1)?;
-        self.named.reserve(owed)?;
+        reserve_known(&mut self.named, owed)?;
         self.records.push_reserved(told);
         self.owed = owed;
         Ok(())
     }
 
-    // Removes the last record, whose nodes are not in the set yet. It takes no memory.
+    // Removes the last record, if there is one. It takes no memory.
+    //
+    // If its nodes are in the set, the set is emptied, and stays so until the records are taken.
     pub fn remove_last(&mut self)
-        requires { self.old.caught_up < length self.old.records }
         ensures { self.new.records ≡ take (length self.old.records - 1) self.old.records }
     {
+        let is_named = self.caught_up == self.records.len();
         if let Some(told) = self.records.pop() {
-            self.owed -= room_for(&told);
+            self.owed = without_room_for(self.owed, &told);
+        }
+        if is_named {
+            self.named.clear();
+            self.caught_up = 0;
+            self.owed = None;
         }
     }
 
-    // Adds the nodes in records queued since its last call to the set. It takes no memory: room is reserved.
+    // Adds the nodes in records queued since its last call to the set, if it has room for them. It takes no memory.
     pub fn flush_pending(&mut self)
         ensures { self.new.records ≡ self.old.records }
     {
-        name_each(&mut self.named, &self.records.as_slice()[self.caught_up..]);
-        self.caught_up = self.records.len();
-        self.owed = 0;
+        if has_room(&self.named, self.owed) {
+            name_each(&mut self.named, &self.records.as_slice()[self.caught_up..]);
+            self.caught_up = self.records.len();
+            self.owed = Some(0);
+        }
     }
 
     // Takes the records. It takes no memory, and keeps some room of the set.
@@ -105,7 +114,7 @@ impl Queue {
             self.named.clear();
         }
         self.caught_up = 0;
-        self.owed = 0;
+        self.owed = Some(0);
         mem::replace(&mut self.records, Vec::new(alloc))
     }
 
@@ -214,6 +223,46 @@ fn room_for(told: &Record) -> usize
 {
     let siblings = count_of(told.previous) + count_of(told.next);
     told.added.as_slice().len() + told.removed.as_slice().len() + siblings + 1
+}
+
+// Returns the room that a record's nodes need with that for the others; none if it is not known, or too much.
+fn with_room_for(owed: Option<usize>, told: &Record) -> Option<usize>
+    ensures { IfSome result (λ room. IsRoomWith owed (length (nodes_of_record told.now)) room) }
+{
+    match owed {
+        Some(owed) => owed.checked_add(room_for(told)),
+        None => None,
+    }
+}
+
+// Returns the room for the others without that for a record's nodes; none if it is not known.
+fn without_room_for(owed: Option<usize>, told: &Record) -> Option<usize>
+    ensures { result ≡ option_map (λ room. room - length (nodes_of_record told.now)) owed }
+{
+    match owed {
+        Some(owed) => Some(owed.saturating_sub(room_for(told))),
+        None => None,
+    }
+}
+
+// Reserves room in the set, if it is known how much.
+fn reserve_known(named: &mut IndexSet<u32>, owed: Option<usize>) -> Result<(), AllocError>
+    ensures { IsUnchanged named.old named.new }
+{
+    match owed {
+        Some(room) => named.reserve(room),
+        None => Ok(()),
+    }
+}
+
+// Returns whether it is known how much room the set needs, and the set has it.
+fn has_room(named: &IndexSet<u32>, owed: Option<usize>) -> bool
+    ensures { result ≡ true → HasRoomFor owed named.now }
+{
+    match owed {
+        Some(room) => room <= named.capacity() - named.len(),
+        None => false,
+    }
 }
 
 // Adds a node to the set, within reserved room.

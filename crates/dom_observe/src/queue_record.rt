@@ -1,6 +1,6 @@
 //! Which observers a mutation interests, and their records (DOM Standard, "queue a mutation record").
 
-ghost use Rattle.std.specs.Prelude.{◌≡◌, ◌≢◌, ℕ, ◌+◌, ◌-◌, ◌<◌, ◌≤◌, Bool, false, ◌==◌, List, [], ◌∷◌, ◌++◌, ◌||◌, length, take, true, if◌then◌else◌, map, unwrap_or, nat_eq, None, Some, IsSome, IfSome, IfOk, OnOk, OnErr};
+ghost use Rattle.std.specs.Prelude.{◌≡◌, ℕ, ◌+◌, ◌-◌, ◌<◌, ◌≤◌, Bool, false, ◌==◌, List, [], ◌∷◌, ◌++◌, ◌||◌, length, take, true, if◌then◌else◌, map, unwrap_or, nat_eq, None, Some, IfSome, IfOk, OnOk, OnErr};
 ghost use Rattle.std.specs.List.{AllByRecursion, list_any};
 ghost use Rattle.std.specs.Map.{lookup, keys_of};
 ghost use Rattle.indexmap.specs.IndexMap.{get, IsUnique};
@@ -14,7 +14,7 @@ ghost use Rattle.dom_observe.specs.Invariant.{AllThere};
 ghost use Rattle.dom_observe.specs.QueuedNodes.{RecordsNameOnly};
 ghost use Rattle.dom_model.specs.Worlds.World.{Mutation as PlainMutation};
 ghost use Rattle.dom_model.specs.MutationObservers.Record.{Record as PlainRecord};
-ghost use Rattle.dom_observe.specs.Roster.{keys_by, queues_by, is_there, records_of, IsFresh};
+ghost use Rattle.dom_observe.specs.Roster.{keys_by, queues_by, is_there, records_of};
 ghost use Rattle.dom_observe.specs.Interested.{listener_under, listeners, listeners_to, flag_of, joined_interest, IsOnly, delivered};
 
 use crate::observer_id::ObserverId;
@@ -27,7 +27,7 @@ use std::alloc::{AllocError, Global};
 
 // Returns the observer that a registration under a key makes interested, and whether it asks for the old value.
 #[inline(always)]
-fn listener_at(
+pub(crate) fn listener_at(
     registrations: &Registrations,
     key: usize,
     question: &Question<'_>,
@@ -124,7 +124,7 @@ pub(crate) fn mark_pending(
 
 // Does so within reserved room. It takes no memory.
 #[inline(always)]
-fn mark_pending_reserved(pending: &mut IndexSet<ObserverId>, observer: ObserverId)
+pub(crate) fn mark_pending_reserved(pending: &mut IndexSet<ObserverId>, observer: ObserverId)
     requires { 0 < spare pending.old }
     ensures keys { pending.new.keys ≡ with_last pending.old.keys observer }
     ensures room { spare pending.old ≤ spare pending.new + 1 }
@@ -180,8 +180,6 @@ fn push_record(roster: &mut Roster, observer: u32, told: Record) -> Result<(), A
     ensures ok { OnOk result ((p : ℕ) → records_of roster.new p
         ≡ (if observer == p then records_of roster.old p ++ told ∷ []
         else records_of roster.old p)) }
-    ensures fresh { OnOk result ((p : ℕ) → (observer ≢ p → IsFresh roster.old p) →
-        IsFresh roster.new p) }
     ensures err { OnErr result (roster.new ≡ roster.old) }
     ensures keys { keys_by roster.new ≡ keys_by roster.old }
 {
@@ -202,8 +200,6 @@ fn push_record_of(
     ensures told { OnOk result ((p : ℕ) → records_of roster.new p
         ≡ records_of roster.old p ++ delivered mutation.now (if observer == p then Some asks
         else None)) }
-    ensures fresh { OnOk result ((p : ℕ) → (observer ≢ p → IsFresh roster.old p) →
-        IsFresh roster.new p) }
     ensures err { OnErr result (roster.new ≡ roster.old) }
     ensures keys { keys_by roster.new ≡ keys_by roster.old }
 {
@@ -235,13 +231,12 @@ fn queue_for_one(
     Ok(())
 }
 
-// Removes the last record of an observer's queue, which was queued since the set of the queue was updated. It takes no memory.
-fn remove_last(roster: &mut Roster, observer: u32)
-    requires { IsFresh roster.old observer }
+// Removes the last record of an observer's queue. It takes no memory.
+pub(crate) fn remove_last(roster: &mut Roster, observer: u32)
+    requires { is_there roster.old observer ≡ true }
     ensures left { (p : ℕ) → records_of roster.new p ≡ (if observer == p
         then take (length (records_of roster.old p) - 1) (records_of roster.old p)
         else records_of roster.old p) }
-    ensures fresh { (p : ℕ) → observer ≢ p → IsFresh roster.old p → IsFresh roster.new p }
     ensures keys { keys_by roster.new ≡ keys_by roster.old }
 {
     let kept = roster.get_mut(ObserverId::new(observer));
@@ -251,8 +246,7 @@ fn remove_last(roster: &mut Roster, observer: u32)
 // Removes the records of a mutation that the first interested observers have got, from the last of them to the first. It takes no memory.
 fn take_back(roster: &mut Roster, heard: &IndexMap<u32, bool>, count: usize)
     requires unique { IsUnique nat_eq heard.now }
-    requires fresh { (p : ℕ) → IsSome (lookup (nat_eq p) (take count heard.now.entries)) →
-        IsFresh roster.old p }
+    requires there { AllThere (is_there roster.old) (keys_of heard.now.entries) }
     ensures left { (m : PlainMutation) (before : ℕ → List PlainRecord) → ((p : ℕ) → records_of roster.old p
         ≡ before p ++ delivered m (lookup (nat_eq p) (take count heard.now.entries))) →
         (p : ℕ) → records_of roster.new p ≡ before p }
@@ -320,12 +314,14 @@ fn queue_for_several(
 // Appends a record of the mutation to the queue of each interested observer by the registrations under the keys, and adds these observers to the
 // pending list in order. After an error no queue has changed, and nor has the list.
 //
-// A single interested observer, the usual case, is found by a scan without a map.
+// A single interested observer, the usual case, is found by a scan without a map. There is room then for all pending observers among those that are
+// not told, so that a record can be taken back without memory.
 pub(crate) fn queue_for_interested(
     registrations: &Registrations,
     standing: &[usize],
     roster: &mut Roster,
     pending: &mut IndexSet<ObserverId>,
+    untold: &mut IndexSet<ObserverId>,
     mutation: &Mutation<'_>,
     alloc: Global,
 ) -> Result<(), AllocError>
@@ -346,7 +342,11 @@ pub(crate) fn queue_for_interested(
     ensures names { RecordsNameOnly (nodes_of_mutation mutation.now) (queues_by roster.old)
         (queues_by roster.new) }
     ensures keys { keys_by roster.new ≡ keys_by roster.old }
+    ensures untold { untold.new.keys ≡ untold.old.keys }
+    ensures room { length pending.old.keys ≤ spare untold.old →
+        length pending.new.keys ≤ spare untold.new }
 {
+    untold.reserve(pending.len() + standing.len())?;
     let question = mutation.question();
     if let Some(listener) = only_listener(registrations, standing, &question) {
         return queue_for_one(roster, pending, listener, mutation, alloc);

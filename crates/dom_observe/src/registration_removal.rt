@@ -2,11 +2,12 @@
 
 ghost use Rattle.std.specs.Prelude.{◌≡◌, ◌≢◌, ℕ, ◌==◌, not, [], List, length, filter, Some, None, nat_eq, option_map, if◌then◌else◌, true, false, slice_set};
 ghost use Rattle.std.specs.Option.{option_copied};
-ghost use Rattle.std.specs.Map.{lookup};
+ghost use Rattle.std.specs.Map.{lookup, keys_of};
 ghost use Rattle.indexmap.specs.IndexMap.{IsUnique};
 ghost use Rattle.dom_model.specs.PlainLists.Lists.{among};
 ghost use Rattle.dom_observe.specs.Watchers.{on};
 ghost use Rattle.dom_observe.specs.Registrations.{plain, at, in_table, listed, is_live, unless_ended, unless_ending, of_kind, AllLive, Between, ending_node, lasts_for, passes_for, Owned, HaveKeys, KeysLeft, ByOrigin, Swept};
+ghost use Rattle.dom_observe.specs.NodeOrder.{MayGoLast};
 ghost use Rattle.dom_observe.specs.Invariant.{AllThere, HaveNone};
 ghost use Rattle.dom_observe.specs.Turns.{turn_at, Rises, Fewer};
 ghost use Rattle.dom_observe.specs.Roster.{lasting_by, passing_by, queues_by, is_there, passing_at};
@@ -122,6 +123,7 @@ pub(crate) fn end_key_on(
     ensures fewer { Fewer table.old table.new }
     ensures keys { KeysLeft node (is_live (in_table table.new)) (listed nodes.old.entries)
         (listed nodes.new.entries) result }
+    ensures nodes { keys_of (listed nodes.new.entries) ≡ keys_of (listed nodes.old.entries) }
     ensures unique { IsUnique nat_eq nodes.new }
 {
     match nodes.get_mut(&node.number()) {
@@ -130,7 +132,7 @@ pub(crate) fn end_key_on(
     }
 }
 
-// Takes out a node that is left without keys.
+// Takes out a node that is left without keys. The last takes its place.
 pub(crate) fn leave_out(nodes: &mut IndexMap<u32, NodeKeys>, node: NodeId, is_bare: bool)
     requires unique { IsUnique nat_eq nodes.old }
     requires bare { is_bare ≡ true → on node (listed nodes.old.entries) ≡ [] }
@@ -140,6 +142,7 @@ pub(crate) fn leave_out(nodes: &mut IndexMap<u32, NodeKeys>, node: NodeId, is_ba
     ensures full { (lists : List (ℕ × List ℕ)) → HaveKeys lists → ((n : ℕ) → n ≢ node →
         lookup (nat_eq n) (listed nodes.old.entries) ≡ lookup (nat_eq n) lists) →
         HaveKeys (listed nodes.new.entries) }
+    ensures nodes { MayGoLast node (listed nodes.old.entries) (listed nodes.new.entries) }
     ensures unique { IsUnique nat_eq nodes.new }
 {
     if is_bare {

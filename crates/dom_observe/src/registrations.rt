@@ -5,9 +5,11 @@ ghost use Rattle.std.specs.Option.{option_copied};
 ghost use Rattle.std.specs.List.{list_any};
 ghost use Rattle.std.specs.Map.{keys_of};
 ghost use Rattle.dom_model.specs.PlainLists.Lists.{among};
+ghost use Rattle.dom_model.specs.PlainLists.LastOnce.{with_last};
 ghost use Rattle.dom_model.specs.Forests.Forest.{inclusive_descendants};
 ghost use Rattle.dom_observe.specs.Watchers.{on};
 ghost use Rattle.dom_observe.specs.Registrations.{plain, at, is_live, is_on_node, own_at, unless_ending, with_new_options, origin_at, Added, NewKey, ByOrigin, IsFirstFrom, IsPast, Swept};
+ghost use Rattle.dom_observe.specs.NodeOrder.{MayGoLast};
 ghost use Rattle.dom_observe.specs.Invariant.{AreRegistered};
 
 use crate::filter::Interests;
@@ -210,6 +212,8 @@ impl Registrations {
             (at self.new) self.new.lists) }
         ensures own { OnOk result (NewKey (at self.old) (plain registration) (at self.new) place
             keys.old.items keys.new.items) }
+        ensures nodes { OnOk result (keys_of self.new.lists
+            ≡ with_last (keys_of self.old.lists) registration.node) }
         ensures err { OnErr result (self.new ≡ self.old) }
         ensures err_own { OnErr result (keys.new.items ≡ keys.old.items) }
     {
@@ -240,6 +244,7 @@ impl Registrations {
         requires { is_on_node node (at self.old key) ≡ true }
         ensures left { (k : ℕ) → at self.new k ≡ (if k == key then None else at self.old k) }
         ensures swept { Swept self.old self.new }
+        ensures nodes { MayGoLast node self.old.lists self.new.lists }
     {
         let is_bare = end_key_on(&mut self.table, &mut self.nodes, node, key);
         leave_out(&mut self.nodes, node, is_bare);

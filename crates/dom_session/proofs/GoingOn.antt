@@ -1,12 +1,14 @@
 -- What is as it was if memory was refused, and for which commands it is.
-use Rattle.std.proofs.Common.{◌≡◌, ◌==◌, ◌||◌, Bool, true, false, List, [], length, Result, Ok, Err, OnErr, refl, sym, subst, ap}
-use Rattle.std.proofs.lemmas.{Bool.eqb-true, List.nil_from_length}
+use Rattle.std.proofs.Common.{◌≡◌, ℕ, ◌==◌, ◌||◌, not, Option, None, Some, is_some, Bool, true, false, List, [], length, Result, Ok, Err, OnErr, refl, sym, subst, ap}
+use Rattle.std.proofs.lemmas.{Bool.eqb-true, Bool.and_parts, Bool.not-true, Bool.false≢true, List.nil_from_length}
+use Rattle.dom_model.specs.declared.Kind.TheVariants.{DocumentFragment}
+use Rattle.dom_model.specs.Definitions.{parent_of, is_of_kind}
 use Rattle.dom_model.specs.Commands.Command.{Command}
 use Rattle.dom_model.specs.Commands.Answer.{Bounds}
 use Rattle.dom_observe.specs.Watchers.{Watches}
-use Rattle.dom_edit.specs.{declared.world.World.World, Whole.Shows, Whole.Keeps, Whole.IsWhole, Whole.IsShown, Whole.CoversAhead}
+use Rattle.dom_edit.specs.{declared.world.World.World, Whole.Shows, Whole.Keeps, Whole.IsWhole, Whole.IsShown, Whole.IsUnobserved, Whole.CoversAhead}
 use Rattle.dom_commands.specs.{declared.command.Making.Making, declared.command.Making.TheVariants.NewDocument, declared.command.Making.TheVariants.CreateElement, declared.command.Making.TheVariants.CreateText, declared.command.Making.TheVariants.CreateComment, declared.command.Making.TheVariants.CreatePI, declared.command.Making.TheVariants.CreateDoctype, declared.command.Making.TheVariants.CreateFragment, declared.command.Editing.Editing, declared.command.Editing.TheVariants.InsertBefore, declared.command.Editing.TheVariants.AppendChild, declared.command.Editing.TheVariants.AdoptNode, declared.command.Editing.TheVariants.ReplaceChild, declared.command.Editing.TheVariants.RemoveChild, declared.command.Editing.TheVariants.Remove, declared.command.Editing.TheVariants.ReplaceChildren, declared.command.Editing.TheVariants.Discard, declared.command.Asking.Asking, declared.command.Asking.TheVariants.DescribeNode, declared.command.Asking.TheVariants.Children, declared.command.Asking.TheVariants.Index, declared.command.Asking.TheVariants.Length, declared.command.Asking.TheVariants.Root, declared.command.Asking.TheVariants.Tree, declared.command.Ranging.Ranging, declared.command.Ranging.TheVariants.CreateRange, declared.command.Ranging.TheVariants.CloneRange, declared.command.Ranging.TheVariants.DescribeRange, declared.command.Ranging.TheVariants.ReleaseRange, declared.command.Setting.Setting, declared.command.Setting.TheVariants.SetStart, declared.command.Setting.TheVariants.SetEnd, declared.command.Setting.TheVariants.SetStartBefore, declared.command.Setting.TheVariants.SetStartAfter, declared.command.Setting.TheVariants.SetEndBefore, declared.command.Setting.TheVariants.SetEndAfter, declared.command.Setting.TheVariants.Collapse, declared.command.Setting.TheVariants.SelectNode, declared.command.Setting.TheVariants.SelectNodeContents, declared.command.Comparing.Comparing, declared.command.Comparing.TheVariants.CompareBoundaryPoints, declared.command.Comparing.TheVariants.ComparePoint, declared.command.Comparing.TheVariants.IsPointInRange, declared.command.Comparing.TheVariants.IntersectsNode, declared.command.Comparing.TheVariants.CommonAncestor, declared.command.StaticRanging.StaticRanging, declared.command.StaticRanging.TheVariants.CreateStaticRange, declared.command.StaticRanging.TheVariants.DescribeStaticRange, declared.command.StaticRanging.TheVariants.ReleaseStaticRange, declared.command.Traversing.Traversing, declared.command.Traversing.TheVariants.CreateIterator, declared.command.Traversing.TheVariants.CreateWalker, declared.command.Traversing.TheVariants.DescribeIterator, declared.command.Traversing.TheVariants.NextNode, declared.command.Traversing.TheVariants.PreviousNode, declared.command.Traversing.TheVariants.DescribeWalker, declared.command.Traversing.TheVariants.SetCurrent, declared.command.Traversing.TheVariants.Walk, declared.command.Traversing.TheVariants.ReleaseIterator, declared.command.Traversing.TheVariants.ReleaseWalker, Views.making_view, Views.editing_view, Views.asking_view, Views.ranging_view, Views.setting_view, Views.comparing_view, Views.static_ranging_view, Views.traversing_view}
-use Rattle.dom_session.specs.{GoingOn.is_question, GoingOn.goes_on, OutOfMemory.with_covered, OutOfMemory.IsAsItWas, OutOfMemory.IsAsBefore, SessionViews.SessionView}
+use Rattle.dom_session.specs.{GoingOn.is_question, GoingOn.goes_on, GoingOn.is_unobserved, GoingOn.is_lone, OutOfMemory.with_covered, OutOfMemory.IsAsItWas, OutOfMemory.IsAsBefore, SessionViews.SessionView}
 
 pub as_it_was : (v : World) → IsAsItWas v v
 as_it_was v = record { is = refl; stands = λ w shows. shows }
@@ -83,7 +85,7 @@ ending-editing (AdoptNode document node) = refl
 ending-editing (ReplaceChild parent node child) = refl
 ending-editing (RemoveChild parent child) = refl
 ending-editing (Remove node) = refl
-ending-editing (ReplaceChildren parent node) = refl
+ending-editing (ReplaceChildren parent given) = refl
 ending-editing (Discard node) = refl
 
 pub going-asking : (c : Asking) → goes_on (asking_view c) ≡ true
@@ -145,3 +147,14 @@ none-listed xs e = nil_from_length xs (eqb-true (length xs) 0 e)
 pub either-way : {P : Type 0} (a b : Bool) → (a || b) ≡ true → (a ≡ true → P) → (b ≡ true → P) → P
 either-way true b e first second = first refl
 either-way false b e first second = second e
+
+none-of : {A : Type 0} (o : Option A) → not (is_some o) ≡ true → o ≡ None
+none-of None e = refl
+none-of (Some x) e = absurd (false≢true e)
+
+-- an edit that brings a node in changes nothing if nobody observes, or if the node comes in as one, from no parent
+pub alone-or-unobserved : {P : Type 0} (v : World) (n : ℕ) → (is_unobserved v || is_lone v n) ≡ true → (IsUnobserved v → P) → (is_of_kind DocumentFragment v.tree.forest n ≡ false → parent_of v.tree.forest n ≡ None → P) → P
+alone-or-unobserved v n may idle alone =
+    either-way (is_unobserved v) (is_lone v n) may (λ none. idle (none-listed v.observers.nodes none)) (λ lone.
+    let parts = and_parts (not (is_some (parent_of v.tree.forest n))) (not (is_of_kind DocumentFragment v.tree.forest n)) lone in
+    alone (not-true (is_of_kind DocumentFragment v.tree.forest n) parts.1) (none-of (parent_of v.tree.forest n) parts.0))

@@ -17,5 +17,6 @@ pub mod UnobservedLemmas
 pub mod ContentsAnswers
 pub mod LaidOverLemmas
 pub mod Subtrees
+pub mod StepsInTurnLemmas
 pub mod KeepsWholeWorldLemmas
 pub mod GoingOn

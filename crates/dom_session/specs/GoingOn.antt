@@ -1,5 +1,9 @@
 -- Which commands change nothing if they are refused memory, so that the session goes on. Ours.
-use Rattle.std.specs.Prelude.{Bool, true, false, ◌||◌}
+use Rattle.std.specs.Prelude.{ℕ, ◌==◌, Bool, true, false, not, ◌&&◌, ◌||◌, length, is_some}
+use Rattle.dom_model.specs.declared.Kind.TheVariants.{DocumentFragment}
+use Rattle.dom_model.specs.Forests.Forest.{parent_of}
+use Rattle.dom_model.specs.Forests.Nodes.{is_of_kind}
+use Rattle.dom_edit.specs.declared.world.World.{World}
 use Rattle.dom_model.specs.Commands.Command.{Command, NewDocument, CreateElement, CreateText, CreateComment, CreatePI, CreateDoctype, CreateFragment, DescribeNode, Children, Index, Length, Root, IsContaining, IsEqual, ComparePosition, TextContent, Tree, GetData, SubstringData, GetAttribute, HasAttribute, AttributeNames, CreateRange, CloneRange, DescribeRange, SetStart, SetEnd, SetStartBefore, SetStartAfter, SetEndBefore, SetEndAfter, Collapse, SelectNode, SelectNodeContents, CompareBoundaryPoints, ComparePoint, IsPointInRange, IntersectsNode, CommonAncestor, RangeText, ReleaseRange, CreateIterator, CreateWalker, DescribeIterator, NextNode, PreviousNode, DescribeWalker, SetCurrent, Walk, CreateObserver, Observe, Disconnect, TakeRecords, Notify, Pending, CreateStaticRange, DescribeStaticRange, ReleaseIterator, ReleaseWalker, ReleaseStaticRange, ReleaseObserver, TakePending, TellObserver, InsertBefore, AppendChild, AdoptNode, ReplaceChild, RemoveChild, Remove, ReplaceChildren, Discard, SetData, AppendData, InsertData, DeleteData, ReplaceData, SetAttribute, RemoveAttribute, ToggleAttribute}
 
 -- a command that only reads
@@ -73,25 +77,33 @@ is_all_or_nothing (ReleaseWalker walker) = true
 is_all_or_nothing (ReleaseObserver observer) = true
 is_all_or_nothing _ = false
 
--- a command that changes nothing if it is refused memory while nobody observes
-abbrev pub is_all_or_nothing_unobserved : Command → Bool
-is_all_or_nothing_unobserved (InsertBefore parent node child) = true
-is_all_or_nothing_unobserved (AppendChild parent node) = true
-is_all_or_nothing_unobserved (AdoptNode document node) = true
-is_all_or_nothing_unobserved (ReplaceChild parent node child) = true
-is_all_or_nothing_unobserved (RemoveChild parent child) = true
-is_all_or_nothing_unobserved (Remove node) = true
-is_all_or_nothing_unobserved (ReplaceChildren parent given) = true
-is_all_or_nothing_unobserved (Discard node) = true
-is_all_or_nothing_unobserved (SetData node text) = true
-is_all_or_nothing_unobserved (AppendData node text) = true
-is_all_or_nothing_unobserved (InsertData node offset text) = true
-is_all_or_nothing_unobserved (DeleteData node offset count) = true
-is_all_or_nothing_unobserved (ReplaceData node offset count text) = true
-is_all_or_nothing_unobserved (SetAttribute element name value) = true
-is_all_or_nothing_unobserved (RemoveAttribute element name) = true
-is_all_or_nothing_unobserved (ToggleAttribute element name force) = true
-is_all_or_nothing_unobserved _ = false
+-- nobody observes
+abbrev pub is_unobserved : World → Bool
+is_unobserved v = length v.observers.nodes == 0
+
+-- a node comes in as one, from no parent
+abbrev pub is_lone : World → ℕ → Bool
+is_lone v n = not (is_some (parent_of v.tree.forest n)) && not (is_of_kind DocumentFragment v.tree.forest n)
+
+-- a further command that changes nothing in this world if it is refused memory
+abbrev pub is_unchanged_in : World → Command → Bool
+is_unchanged_in v (InsertBefore parent node child) = is_unobserved v || is_lone v node
+is_unchanged_in v (AppendChild parent node) = is_unobserved v || is_lone v node
+is_unchanged_in v (ReplaceChild parent node child) = is_unobserved v
+is_unchanged_in v (ReplaceChildren parent given) = is_unobserved v
+is_unchanged_in v (AdoptNode document node) = true
+is_unchanged_in v (RemoveChild parent child) = true
+is_unchanged_in v (Remove node) = true
+is_unchanged_in v (Discard node) = true
+is_unchanged_in v (SetData node text) = true
+is_unchanged_in v (AppendData node text) = true
+is_unchanged_in v (InsertData node offset text) = true
+is_unchanged_in v (DeleteData node offset count) = true
+is_unchanged_in v (ReplaceData node offset count text) = true
+is_unchanged_in v (SetAttribute element name value) = true
+is_unchanged_in v (RemoveAttribute element name) = true
+is_unchanged_in v (ToggleAttribute element name force) = true
+is_unchanged_in v _ = false
 
 -- a command after which the session goes on, also if it is refused memory
 abbrev pub goes_on : Command → Bool

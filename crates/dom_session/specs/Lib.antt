@@ -7,6 +7,7 @@ pub mod Codes
 pub mod Neighbours
 pub mod BorrowedData
 pub mod Subtree
+pub mod StepsInTurn
 pub mod InUse
 pub mod OutOfMemory
 pub mod GoingOn

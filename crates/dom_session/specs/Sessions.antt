@@ -2,5 +2,5 @@
 pub use Rattle.dom_session.specs.SessionBounds.{bounds_of}
 pub use Rattle.dom_session.specs.SessionViews.{SessionView, StandsFor, held_world}
 pub use Rattle.dom_session.specs.OutOfMemory.{IsAsBefore}
-pub use Rattle.dom_session.specs.GoingOn.{is_question, goes_on, is_all_or_nothing_unobserved}
+pub use Rattle.dom_session.specs.GoingOn.{is_question, goes_on, is_unchanged_in}
 pub use Rattle.dom_commands.specs.Views.{command_view, reading_view, answer_view, reply_view}

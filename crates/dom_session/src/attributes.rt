@@ -6,11 +6,11 @@ ghost use Rattle.dom_model.specs.Forests.Forest.{HasNode, entry_in};
 ghost use Rattle.dom_model.specs.DataAndCopies.Data.{content_in};
 ghost use Rattle.dom_model.specs.Commands.Command.{SetAttribute, GetAttribute, HasAttribute, RemoveAttribute, ToggleAttribute, AttributeNames};
 ghost use Rattle.dom_model.specs.Commands.Guards.{Bounds};
-ghost use Rattle.dom_edit.specs.Whole.{IsShown, IsUnobserved};
+ghost use Rattle.dom_edit.specs.Whole.{IsShown};
 ghost use Rattle.dom_commands.specs.Views.{attributes_view};
 ghost use Rattle.dom_session.specs.SessionViews.{IsStep, RepliesTo};
 ghost use Rattle.dom_session.specs.OutOfMemory.{KeepsWholeWorld};
-ghost use Rattle.dom_session.specs.GoingOn.{goes_on, is_all_or_nothing_unobserved};
+ghost use Rattle.dom_session.specs.GoingOn.{goes_on, is_unchanged_in};
 
 use crate::refusals::kind_refusal;
 use dom_commands::{Answer, Attributes, Brief, Reply};
@@ -32,7 +32,7 @@ pub(crate) fn set_attribute(
     ensures step { IfOk result (λ reply. (b : Bounds) →
         IsStep world.old world.new b (SetAttribute element (string_bytes name) value) reply) }
     ensures left { OnErr result (KeepsWholeWorld world.old world.new) }
-    ensures unobserved { IsUnobserved world.old → OnErr result (world.new ≡ world.old) }
+    ensures unchanged { OnErr result (world.new ≡ world.old) }
 {
     if let Some(reply) = kind_refusal(world, element, Kind::Element) {
         return Ok(reply);
@@ -118,7 +118,7 @@ pub(crate) fn remove_attribute(
     ensures step { IfOk result (λ reply. (b : Bounds) →
         IsStep world.old world.new b (RemoveAttribute element name.now) reply) }
     ensures left { OnErr result (KeepsWholeWorld world.old world.new) }
-    ensures unobserved { IsUnobserved world.old → OnErr result (world.new ≡ world.old) }
+    ensures unchanged { OnErr result (world.new ≡ world.old) }
 {
     if let Some(reply) = kind_refusal(world, element, Kind::Element) {
         return Ok(reply);
@@ -139,7 +139,7 @@ pub(crate) fn toggle_attribute(
     ensures step { IfOk result (λ reply. (b : Bounds) →
         IsStep world.old world.new b (ToggleAttribute element (string_bytes name) force) reply) }
     ensures left { OnErr result (KeepsWholeWorld world.old world.new) }
-    ensures unobserved { IsUnobserved world.old → OnErr result (world.new ≡ world.old) }
+    ensures unchanged { OnErr result (world.new ≡ world.old) }
 {
     if let Some(reply) = kind_refusal(world, element, Kind::Element) {
         return Ok(reply);
@@ -194,8 +194,8 @@ pub(crate) fn change_attributes(
     ensures left { OnErr result (KeepsWholeWorld world.old world.new) }
     ensures unchanged { goes_on (attributes_view command) ≡ true →
         OnErr result (world.new ≡ world.old) }
-    ensures unobserved { is_all_or_nothing_unobserved (attributes_view command) ≡ true →
-        IsUnobserved world.old → OnErr result (world.new ≡ world.old) }
+    ensures same { is_unchanged_in world.old (attributes_view command) ≡ true →
+        OnErr result (world.new ≡ world.old) }
 {
     match command {
         Attributes::SetAttribute(element, name, value) => set_attribute(

@@ -4,11 +4,11 @@ ghost use Rattle.std.specs.Prelude.{◌≡◌, ◌≤◌, option_map, IfOk, OnEr
 ghost use Rattle.dom_model.specs.Forests.Kinds.{is_character_data};
 ghost use Rattle.dom_model.specs.Commands.Command.{GetData, SetData, AppendData, InsertData, DeleteData, ReplaceData, SubstringData, SplitText, TextContent, SetTextContent, Normalize};
 ghost use Rattle.dom_model.specs.Commands.Guards.{Bounds};
-ghost use Rattle.dom_edit.specs.Whole.{IsShown, IsUnobserved};
+ghost use Rattle.dom_edit.specs.Whole.{IsShown};
 ghost use Rattle.dom_commands.specs.Views.{texts_view, reply_view};
 ghost use Rattle.dom_session.specs.SessionViews.{IsStep};
 ghost use Rattle.dom_session.specs.OutOfMemory.{KeepsWholeWorld};
-ghost use Rattle.dom_session.specs.GoingOn.{goes_on, is_all_or_nothing_unobserved};
+ghost use Rattle.dom_session.specs.GoingOn.{goes_on, is_unchanged_in};
 ghost use Rattle.dom_session.specs.AnswerBounds.{numbered};
 ghost use Rattle.dom_session.specs.Refusals.{kind_refusal};
 
@@ -58,7 +58,7 @@ pub(crate) fn set_data(
     ensures step { IfOk result (λ reply. (b : Bounds) →
         IsStep world.old world.new b (SetData node text.now) reply) }
     ensures left { OnErr result (KeepsWholeWorld world.old world.new) }
-    ensures unobserved { IsUnobserved world.old → OnErr result (world.new ≡ world.old) }
+    ensures unchanged { OnErr result (world.new ≡ world.old) }
 {
     if let Some(reply) = refusal(world, node) {
         return Ok(reply);
@@ -80,7 +80,7 @@ pub(crate) fn replace_data(
     ensures step { IfOk result (λ reply. (b : Bounds) →
         IsStep world.old world.new b (ReplaceData node offset count text.now) reply) }
     ensures left { OnErr result (KeepsWholeWorld world.old world.new) }
-    ensures unobserved { IsUnobserved world.old → OnErr result (world.new ≡ world.old) }
+    ensures unchanged { OnErr result (world.new ≡ world.old) }
 {
     if let Some(reply) = refusal(world, node) {
         return Ok(reply);
@@ -102,7 +102,7 @@ pub(crate) fn append_data(
     ensures step { IfOk result (λ reply. (b : Bounds) →
         IsStep world.old world.new b (AppendData node text.now) reply) }
     ensures left { OnErr result (KeepsWholeWorld world.old world.new) }
-    ensures unobserved { IsUnobserved world.old → OnErr result (world.new ≡ world.old) }
+    ensures unchanged { OnErr result (world.new ≡ world.old) }
 {
     if !world.tree.holds(node) {
         return Ok(Reply::Brief(Brief::Own(OwnError::NoSuchObject)));
@@ -123,7 +123,7 @@ pub(crate) fn insert_data(
     ensures step { IfOk result (λ reply. (b : Bounds) →
         IsStep world.old world.new b (InsertData node offset text.now) reply) }
     ensures left { OnErr result (KeepsWholeWorld world.old world.new) }
-    ensures unobserved { IsUnobserved world.old → OnErr result (world.new ≡ world.old) }
+    ensures unchanged { OnErr result (world.new ≡ world.old) }
 {
     replace_data(world, alloc, node, offset as usize, 0, text)
 }
@@ -140,7 +140,7 @@ pub(crate) fn delete_data(
     ensures step { IfOk result (λ reply. (b : Bounds) →
         IsStep world.old world.new b (DeleteData node offset count) reply) }
     ensures left { OnErr result (KeepsWholeWorld world.old world.new) }
-    ensures unobserved { IsUnobserved world.old → OnErr result (world.new ≡ world.old) }
+    ensures unchanged { OnErr result (world.new ≡ world.old) }
 {
     replace_data(world, alloc, node, offset as usize, count as usize, &[])
 }
@@ -257,8 +257,8 @@ pub(crate) fn change_texts(
     ensures left { OnErr result (KeepsWholeWorld world.old world.new) }
     ensures unchanged { goes_on (texts_view command) ≡ true →
         OnErr result (world.new ≡ world.old) }
-    ensures unobserved { is_all_or_nothing_unobserved (texts_view command) ≡ true →
-        IsUnobserved world.old → OnErr result (world.new ≡ world.old) }
+    ensures same { is_unchanged_in world.old (texts_view command) ≡ true →
+        OnErr result (world.new ≡ world.old) }
 {
     match command {
         Texts::GetData(node) => data(world, alloc, node),

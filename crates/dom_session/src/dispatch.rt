@@ -1,11 +1,11 @@
 //! The answer to each command.
 
 ghost use Rattle.std.specs.Prelude.{◌≡◌, ◌≤◌, IfOk, OnErr, true};
-ghost use Rattle.dom_edit.specs.Whole.{IsShown, IsUnobserved};
+ghost use Rattle.dom_edit.specs.Whole.{IsShown};
 ghost use Rattle.dom_commands.specs.Views.{command_view};
 ghost use Rattle.dom_session.specs.SessionViews.{IsStep};
 ghost use Rattle.dom_session.specs.OutOfMemory.{KeepsWholeWorld, IsAsItWas};
-ghost use Rattle.dom_session.specs.GoingOn.{is_question, goes_on, is_all_or_nothing_unobserved};
+ghost use Rattle.dom_session.specs.GoingOn.{is_question, goes_on, is_unchanged_in};
 ghost use Rattle.dom_session.specs.AnswerBounds.{numbered};
 
 use crate::attributes::change_attributes;
@@ -41,8 +41,8 @@ pub(crate) fn answered(
         OnErr result (world.new ≡ world.old) }
     ensures goes_on { goes_on (command_view command) ≡ true →
         OnErr result (IsAsItWas world.old world.new) }
-    ensures unobserved { is_all_or_nothing_unobserved (command_view command) ≡ true →
-        IsUnobserved world.old → OnErr result (world.new ≡ world.old) }
+    ensures same { is_unchanged_in world.old (command_view command) ≡ true →
+        OnErr result (world.new ≡ world.old) }
 {
     match command {
         Command::Making(command) => Ok(Reply::Brief(make_nodes(world, numbers, alloc, command)?)),

@@ -1,11 +1,14 @@
 //! Whether a session goes on if a command is refused memory.
 
-ghost use Rattle.std.specs.Prelude.{◌≡◌, ◌==◌, ◌&&◌, length};
-ghost use Rattle.dom_session.specs.GoingOn.{goes_on, is_all_or_nothing_unobserved};
-ghost use Rattle.dom_commands.specs.Views.{command_view, texts_view, attributes_view, copying_view, contents_view};
+ghost use Rattle.std.specs.Prelude.{◌≡◌};
+ghost use Rattle.dom_edit.specs.declared.world.World.{World as WorldView};
+ghost use Rattle.dom_session.specs.GoingOn.{goes_on, is_lone, is_unchanged_in};
+ghost use Rattle.dom_commands.specs.Views.{command_view, editing_view, texts_view, attributes_view, copying_view, contents_view};
 
-use dom_commands::{Attributes, Command, Contents, Copying, Texts};
+use dom_commands::{Attributes, Command, Contents, Copying, Editing, Texts};
 use dom_edit::World;
+use dom_kinds::Kind;
+use dom_tree::NodeId;
 
 // Returns whether the session goes on if a command on data or text is refused memory.
 fn texts_goes_on(command: &Texts) -> bool
@@ -84,9 +87,37 @@ pub(crate) fn goes_on(command: &Command) -> bool
     }
 }
 
-// Returns whether a command on data or text changes nothing if it is refused memory while nobody observes.
-fn is_unobserved_text_step(command: &Texts) -> bool
-    ensures { result ≡ is_all_or_nothing_unobserved (texts_view command.now) }
+// Returns whether a node comes in as one, from no parent. One that is not there counts too.
+fn is_lone(world: &World, node: NodeId) -> bool
+    ensures { result ≡ is_lone world.now node }
+{
+    !world.tree.holds(node)
+        || (world.tree.parent(node).is_none()
+            && !world.tree.is_of_kind(node, Kind::DocumentFragment))
+}
+
+/// Returns whether an edit of the tree changes nothing in this world if it is refused memory: if nobody observes, if it takes a node out, or if it
+/// brings in one node that has no parent.
+pub(crate) fn is_edit_unchanged(world: &World, command: &Editing) -> bool
+    ensures { result ≡ is_unchanged_in world.now (editing_view command.now) }
+{
+    match *command {
+        Editing::InsertBefore(_, node, _) | Editing::AppendChild(_, node) => {
+            world.observers.is_idle() || is_lone(world, node)
+        }
+        Editing::ReplaceChild(_, _, _) | Editing::ReplaceChildren(_, _) => {
+            world.observers.is_idle()
+        }
+        Editing::AdoptNode(_, _)
+        | Editing::RemoveChild(_, _)
+        | Editing::Remove(_)
+        | Editing::Discard(_) => true,
+    }
+}
+
+// Returns whether a command on data or text changes nothing if it is refused memory.
+fn is_text_unchanged(command: &Texts) -> bool
+    ensures { (v : WorldView) → result ≡ is_unchanged_in v (texts_view command.now) }
 {
     match *command {
         Texts::SetData(_, _)
@@ -104,8 +135,8 @@ fn is_unobserved_text_step(command: &Texts) -> bool
 }
 
 // Returns whether a command on an attribute does so.
-fn is_unobserved_attribute_step(command: &Attributes) -> bool
-    ensures { result ≡ is_all_or_nothing_unobserved (attributes_view command.now) }
+fn is_attribute_unchanged(command: &Attributes) -> bool
+    ensures { (v : WorldView) → result ≡ is_unchanged_in v (attributes_view command.now) }
 {
     match *command {
         Attributes::SetAttribute(_, _, _)
@@ -117,14 +148,14 @@ fn is_unobserved_attribute_step(command: &Attributes) -> bool
     }
 }
 
-// Returns whether a command does so.
-fn is_unobserved_step(command: &Command) -> bool
-    ensures { result ≡ is_all_or_nothing_unobserved (command_view command.now) }
+/// Returns whether a command changes nothing in this world if it is refused memory, though `goes_on` does not list it.
+pub(crate) fn is_unchanged(world: &World, command: &Command) -> bool
+    ensures { result ≡ is_unchanged_in world.now (command_view command.now) }
 {
     match command {
-        Command::Editing(_) => true,
-        Command::Texts(command) => is_unobserved_text_step(command),
-        Command::Attributes(command) => is_unobserved_attribute_step(command),
+        Command::Editing(command) => is_edit_unchanged(world, command),
+        Command::Texts(command) => is_text_unchanged(command),
+        Command::Attributes(command) => is_attribute_unchanged(command),
         Command::Making(_)
         | Command::Asking(_)
         | Command::Ranging(_)
@@ -136,12 +167,4 @@ fn is_unobserved_step(command: &Command) -> bool
         | Command::Copying(_)
         | Command::Contents(_) => false,
     }
-}
-
-/// Returns whether nobody observes, and a command then changes nothing if it is refused memory.
-pub(crate) fn goes_on_unobserved(world: &World, command: &Command) -> bool
-    ensures { result ≡ ((length world.now.observers.nodes == 0)
-        && is_all_or_nothing_unobserved (command_view command.now)) }
-{
-    world.observers.is_idle() && is_unobserved_step(command)
 }

@@ -27,6 +27,7 @@ mod refusals;
 mod room;
 mod session;
 mod static_ranges;
+mod steps;
 mod subtree;
 mod traversal;
 mod tree_edits;
@@ -42,4 +43,5 @@ pub use dom_commands::{
 pub use in_use::Counts;
 pub use neighbours::Neighbours;
 pub use session::{Ended, Limits, OutOfMemory, Session};
+pub use steps::StepsMade;
 pub use subtree::{NodeRow, SubtreeNode, SubtreePart};

@@ -1,6 +1,7 @@
 //! One session over one world.
 
 ghost use Rattle.std.specs.Prelude.{◌≡◌, ℕ, ◌≤◌, true, false, [], length, Err, IsErr, IfOk, OnOk, OnErr};
+ghost use Rattle.std.specs.Option.{ForSome};
 ghost use Rattle.dom_model.specs.Worlds.World.{World as PlainWorld, first_world};
 ghost use Rattle.dom_model.specs.Forests.Forest.{children_of};
 ghost use Rattle.dom_model.specs.Commands.Command.{CreateElement, CreateText, NextNode, PreviousNode, Walk, HasAttribute};
@@ -10,21 +11,23 @@ ghost use Rattle.dom_commands.specs.Brief.{reply_of};
 ghost use Rattle.dom_commands.specs.Views.{command_view, making_view, editing_view, reading_view, reply_view};
 ghost use Rattle.dom_session.specs.SessionViews.{StandsFor, IsAnswered, held_world};
 ghost use Rattle.dom_session.specs.OutOfMemory.{IsLeft, IsAsBefore};
-ghost use Rattle.dom_session.specs.GoingOn.{is_question, goes_on, is_all_or_nothing_unobserved};
+ghost use Rattle.dom_session.specs.GoingOn.{is_question, goes_on, is_unchanged_in};
 ghost use Rattle.dom_session.specs.SessionBounds.{bounds_of};
 ghost use Rattle.dom_session.specs.InUse.{in_use_of, in_use_in};
 ghost use Rattle.dom_session.specs.Neighbours.{links_in, first_child_in, last_child_in, child_in, child_count_in, laid_over};
 ghost use Rattle.dom_session.specs.BorrowedData.{lent_as, lent_whole, label_of_node, data_in, attribute_of_node};
 ghost use Rattle.dom_session.specs.Subtree.{part_in, laid_in};
+ghost use Rattle.dom_session.specs.StepsInTurn.{steps_in_turn, AreMade};
 ghost use Rattle.dom_attrs.specs.Entries.{attribute_at};
 
 use crate::attributes::has_attribute;
 use crate::dispatch::answered;
-use crate::going_on::{goes_on, goes_on_unobserved};
+use crate::going_on::{goes_on, is_edit_unchanged, is_unchanged};
 use crate::in_use::{self, Counts};
 use crate::neighbours::{self, Neighbours};
 use crate::node_creation::{create_element, create_text, make_nodes};
 use crate::room::make_room;
+use crate::steps::{NextNodes, StepsMade, Walks, make_steps};
 use crate::subtree::{self, NodeRow, SubtreePart};
 use crate::traversal::{next_node, previous_node, walk};
 use crate::tree_edits::edit_tree;
@@ -131,8 +134,8 @@ impl Session {
             OnErr result (IsAsBefore self.old self.new) }
         ensures unchanged { goes_on (command_view command) ≡ false →
             result ≡ Err OutOfMemory.Refused → self.new ≡ self.old }
-        ensures unobserved { is_all_or_nothing_unobserved (command_view command) ≡ true →
-            self.old.world.observers.nodes ≡ [] → OnErr result (self.new ≡ self.old) }
+        ensures edits { is_unchanged_in self.old.world (command_view command) ≡ true →
+            OnErr result (self.new ≡ self.old) }
         ensures stays_ended { self.old.ended ≡ true → IsErr result }
         ensures bounds { self.new.bounds ≡ self.old.bounds }
     {
@@ -143,14 +146,14 @@ impl Session {
             return Err(OutOfMemory::Refused);
         }
         let stays_open = goes_on(&command);
-        let is_unobserved = goes_on_unobserved(&self.world, &command);
+        let is_unchanged = is_unchanged(&self.world, &command);
         match answered(&mut self.world, self.limits.numbers, self.alloc, command) {
             Ok(reply) => Ok(reply),
             Err(_) => {
                 if stays_open {
                     return Err(OutOfMemory::Refused);
                 }
-                if is_unobserved {
+                if is_unchanged {
                     return Err(OutOfMemory::Refused);
                 }
                 self.ended = true;
@@ -246,7 +249,8 @@ impl Session {
         Ok(reply)
     }
 
-    /// Applies an edit of the tree as `apply` does, with fewer arguments to pass. If nobody observes, it never ends a session.
+    /// Applies an edit of the tree as `apply` does, with fewer arguments to pass. It ends no session if nobody observes, if it takes a node out, or if it
+    /// brings in one node that has no parent.
     #[inline(always)]
     pub fn edit(&mut self, command: Editing) -> Result<Brief, OutOfMemory>
         ensures answers { IfOk result
@@ -260,7 +264,7 @@ impl Session {
         ensures same { result ≡ Err OutOfMemory.Refused → IsAsBefore self.old self.new }
         ensures left { OnErr result (IsLeft self.old self.new) }
         ensures unchanged { result ≡ Err OutOfMemory.Refused → self.new ≡ self.old }
-        ensures unobserved { self.old.world.observers.nodes ≡ [] →
+        ensures edits { is_unchanged_in self.old.world (editing_view command) ≡ true →
             OnErr result (self.new ≡ self.old) }
         ensures stays_ended { self.old.ended ≡ true → IsErr result }
         ensures bounds { self.new.bounds ≡ self.old.bounds }
@@ -268,9 +272,9 @@ impl Session {
         if self.ended {
             return Err(OutOfMemory::Ended);
         }
-        let is_unobserved = self.world.observers.is_idle();
+        let is_unchanged = is_edit_unchanged(&self.world, &command);
         let Ok(reply) = edit_tree(&mut self.world, self.alloc, command) else {
-            if is_unobserved {
+            if is_unchanged {
                 return Err(OutOfMemory::Refused);
             }
             self.ended = true;
@@ -334,6 +338,69 @@ impl Session {
             return Err(Ended);
         }
         Ok(walk(&mut self.world, walker, direction))
+    }
+
+    /// Moves an iterator on as often as a slice has room, and writes the node of each step over the front of the slice. It
+    /// stops after a step that finds no node; `count` is the number of nodes, and `last` the reply to the last step. A command that is refused is
+    /// so at once, also if there is no room.
+    ///
+    /// It takes no memory.
+    pub fn next_nodes_into(
+        &mut self,
+        iterator: IteratorId,
+        into: &mut [u32],
+    ) -> Result<StepsMade, Ended>
+        // For every world that the session stands for, the nodes and the replies are those of that world's answers in turn, and the session
+        // stands for the world after the last.
+        ensures answers { IfOk result (λ made. (w : PlainWorld) → StandsFor self.old w →
+            AreMade (steps_in_turn self.old.bounds (NextNode iterator) (length into.old) w)
+            self.new.world made into.old into.new) }
+        ensures refused { IfOk result (λ made. ForSome made.last (λ last.
+            is_refusal (reply_view (reply_of last)) ≡ true →
+            (self.new ≡ self.old) × (into.new ≡ into.old))) }
+        ensures open { OnOk result (self.new.ended ≡ false) }
+        ensures ended { OnErr result (self.new.ended ≡ true) }
+        ensures left { OnErr result (self.new ≡ self.old) }
+        ensures unwritten { OnErr result (into.new ≡ into.old) }
+        ensures stays_ended { self.old.ended ≡ true → IsErr result }
+        ensures bounds { self.new.bounds ≡ self.old.bounds }
+    {
+        if self.ended {
+            return Err(Ended);
+        }
+        Ok(make_steps(&mut self.world, NextNodes { iterator }, into))
+    }
+
+    /// Makes a walker's move as often as a slice has room, and writes the node of each step over the front of the slice. It
+    /// stops after a step that finds no node; `count` is the number of nodes, and `last` the reply to the last step. A command that is refused is
+    /// so at once, also if there is no room.
+    ///
+    /// It takes no memory.
+    pub fn walk_into(
+        &mut self,
+        walker: WalkerId,
+        direction: Move,
+        into: &mut [u32],
+    ) -> Result<StepsMade, Ended>
+        // For every world that the session stands for, the nodes and the replies are those of that world's answers in turn, and the session
+        // stands for the world after the last.
+        ensures answers { IfOk result (λ made. (w : PlainWorld) → StandsFor self.old w →
+            AreMade (steps_in_turn self.old.bounds (Walk walker direction) (length into.old) w)
+            self.new.world made into.old into.new) }
+        ensures refused { IfOk result (λ made. ForSome made.last (λ last.
+            is_refusal (reply_view (reply_of last)) ≡ true →
+            (self.new ≡ self.old) × (into.new ≡ into.old))) }
+        ensures open { OnOk result (self.new.ended ≡ false) }
+        ensures ended { OnErr result (self.new.ended ≡ true) }
+        ensures left { OnErr result (self.new ≡ self.old) }
+        ensures unwritten { OnErr result (into.new ≡ into.old) }
+        ensures stays_ended { self.old.ended ≡ true → IsErr result }
+        ensures bounds { self.new.bounds ≡ self.old.bounds }
+    {
+        if self.ended {
+            return Err(Ended);
+        }
+        Ok(make_steps(&mut self.world, Walks { walker, direction }, into))
     }
 
     /// Returns whether an element has an attribute as `apply` does, from a borrowed name. It takes no memory,

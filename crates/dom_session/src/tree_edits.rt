@@ -1,17 +1,18 @@
 //! The commands that change where nodes stand (DOM Standard, "Interface Node", "Mutation algorithms").
 
-ghost use Rattle.std.specs.Prelude.{◌≡◌, not, IfOk, OnErr};
+ghost use Rattle.std.specs.Prelude.{◌≡◌, not, ◌||◌, true, IfOk, OnErr};
 ghost use Rattle.dom_model.specs.declared.Kind.TheVariants.{Document};
 ghost use Rattle.dom_model.specs.Forests.Kinds.{may_be_parent};
 ghost use Rattle.dom_model.specs.Forests.Nodes.{is_of_kind};
 ghost use Rattle.dom_model.specs.Commands.AnswerTree.{is_child_node};
 ghost use Rattle.dom_model.specs.Commands.Command.{InsertBefore, AppendChild, AdoptNode, ReplaceChild, RemoveChild, Remove, ReplaceChildren, Discard};
 ghost use Rattle.dom_model.specs.Commands.Guards.{Bounds};
-ghost use Rattle.dom_edit.specs.Whole.{IsWhole, IsUnobserved, IsShown};
+ghost use Rattle.dom_edit.specs.Whole.{IsWhole, IsShown};
 ghost use Rattle.dom_commands.specs.Brief.{reply_of};
 ghost use Rattle.dom_commands.specs.Views.{editing_view};
 ghost use Rattle.dom_session.specs.SessionViews.{IsStep};
 ghost use Rattle.dom_session.specs.OutOfMemory.{KeepsWholeWorld};
+ghost use Rattle.dom_session.specs.GoingOn.{is_unobserved, is_lone, is_unchanged_in};
 ghost use Rattle.dom_session.specs.Refusals.{lacks_given};
 
 use crate::refusals::brief_to;
@@ -52,7 +53,8 @@ pub(crate) fn insert_before(
     ensures step { IfOk result (λ reply. (b : Bounds) →
         IsStep world.old world.new b (InsertBefore parent node child) (reply_of reply)) }
     ensures left { OnErr result (KeepsWholeWorld world.old world.new) }
-    ensures unobserved { IsUnobserved world.old → OnErr result (world.new ≡ world.old) }
+    ensures same { (is_unobserved world.old || is_lone world.old node) ≡ true →
+        OnErr result (world.new ≡ world.old) }
 {
     if !world.tree.holds(parent) || !world.tree.holds(node) || !holds_given(world, &child) {
         return Ok(Brief::Own(OwnError::NoSuchObject));
@@ -74,7 +76,8 @@ fn append_any(
     ensures step { IfOk result (λ reply. (b : Bounds) →
         IsStep world.old world.new b (AppendChild parent node) (reply_of reply)) }
     ensures left { OnErr result (KeepsWholeWorld world.old world.new) }
-    ensures unobserved { IsUnobserved world.old → OnErr result (world.new ≡ world.old) }
+    ensures same { (is_unobserved world.old || is_lone world.old node) ≡ true →
+        OnErr result (world.new ≡ world.old) }
 {
     if !world.tree.holds(parent) || !world.tree.holds(node) {
         return Ok(Brief::Own(OwnError::NoSuchObject));
@@ -97,7 +100,8 @@ pub(crate) fn append_child(
     ensures step { IfOk result (λ reply. (b : Bounds) →
         IsStep world.old world.new b (AppendChild parent node) (reply_of reply)) }
     ensures left { OnErr result (KeepsWholeWorld world.old world.new) }
-    ensures unobserved { IsUnobserved world.old → OnErr result (world.new ≡ world.old) }
+    ensures same { (is_unobserved world.old || is_lone world.old node) ≡ true →
+        OnErr result (world.new ≡ world.old) }
 {
     if world.append_leaf(parent, node) {
         return Ok(Brief::Number(node.number()));
@@ -117,7 +121,7 @@ pub(crate) fn replace_child(
     ensures step { IfOk result (λ reply. (b : Bounds) →
         IsStep world.old world.new b (ReplaceChild parent node child) (reply_of reply)) }
     ensures left { OnErr result (KeepsWholeWorld world.old world.new) }
-    ensures unobserved { IsUnobserved world.old → OnErr result (world.new ≡ world.old) }
+    ensures same { is_unobserved world.old ≡ true → OnErr result (world.new ≡ world.old) }
 {
     if !world.tree.holds(parent) || !world.tree.holds(node) || !world.tree.holds(child) {
         return Ok(Brief::Own(OwnError::NoSuchObject));
@@ -138,7 +142,7 @@ pub(crate) fn remove_child(
     ensures step { IfOk result (λ reply. (b : Bounds) →
         IsStep world.old world.new b (RemoveChild parent child) (reply_of reply)) }
     ensures left { OnErr result (KeepsWholeWorld world.old world.new) }
-    ensures unobserved { IsUnobserved world.old → OnErr result (world.new ≡ world.old) }
+    ensures unchanged { OnErr result (world.new ≡ world.old) }
 {
     if !world.tree.holds(parent) || !world.tree.holds(child) {
         return Ok(Brief::Own(OwnError::NoSuchObject));
@@ -155,7 +159,7 @@ pub(crate) fn remove(world: &mut World, node: NodeId) -> Result<Brief, AllocErro
     ensures step { IfOk result (λ reply. (b : Bounds) →
         IsStep world.old world.new b (Remove node) (reply_of reply)) }
     ensures left { OnErr result (KeepsWholeWorld world.old world.new) }
-    ensures unobserved { IsUnobserved world.old → OnErr result (world.new ≡ world.old) }
+    ensures unchanged { OnErr result (world.new ≡ world.old) }
 {
     if !world.tree.holds(node) {
         return Ok(Brief::Own(OwnError::NoSuchObject));
@@ -178,7 +182,7 @@ pub(crate) fn replace_children(
     ensures step { IfOk result (λ reply. (b : Bounds) →
         IsStep world.old world.new b (ReplaceChildren parent node) (reply_of reply)) }
     ensures left { OnErr result (KeepsWholeWorld world.old world.new) }
-    ensures unobserved { IsUnobserved world.old → OnErr result (world.new ≡ world.old) }
+    ensures same { is_unobserved world.old ≡ true → OnErr result (world.new ≡ world.old) }
 {
     if !world.tree.holds(parent) || !holds_given(world, &node) {
         return Ok(Brief::Own(OwnError::NoSuchObject));
@@ -202,7 +206,7 @@ pub(crate) fn adopt_node(
     ensures step { IfOk result (λ reply. (b : Bounds) →
         IsStep world.old world.new b (AdoptNode document node) (reply_of reply)) }
     ensures left { OnErr result (KeepsWholeWorld world.old world.new) }
-    ensures unobserved { IsUnobserved world.old → OnErr result (world.new ≡ world.old) }
+    ensures unchanged { OnErr result (world.new ≡ world.old) }
 {
     if !world.tree.holds(document) || !world.tree.holds(node) {
         return Ok(Brief::Own(OwnError::NoSuchObject));
@@ -243,7 +247,8 @@ pub(crate) fn edit_tree(
     ensures step { IfOk result (λ reply. (b : Bounds) →
         IsStep world.old world.new b (editing_view command) (reply_of reply)) }
     ensures left { OnErr result (KeepsWholeWorld world.old world.new) }
-    ensures unobserved { IsUnobserved world.old → OnErr result (world.new ≡ world.old) }
+    ensures same { is_unchanged_in world.old (editing_view command) ≡ true →
+        OnErr result (world.new ≡ world.old) }
 {
     match command {
         Editing::InsertBefore(parent, node, child) => insert_before(

@@ -23,8 +23,16 @@ const BEGIN: Part = (
 // No record is queued for observer 0, and nobody is pending.
 const NOTHING: &[Fact] = &[Fact::Waiting(0, 0), Fact::Pending(0, None)];
 
-// Removes node 1 from node 0.
-const LEAVE: Part = (1, &[Row::Do(Call::Leave)]);
+// Removes node 1 from node 0. If it is refused, there is no transient registration.
+const LEAVE: Part = (
+    1,
+    &[
+        Row::Try(Call::Leave),
+        Row::Then(When::Refused, &[Fact::Counts(1, 1), Fact::Named(1, false)]),
+        Row::Again(Call::Leave),
+        Row::Then(When::Always, &[Fact::Counts(1, 2)]),
+    ],
+);
 
 // Changes the data of node 0. If it is refused, no record is queued, and nobody is pending.
 const CHANGE_THE_TOP: Part = (
@@ -235,10 +243,22 @@ const CHANGE_FOR_MANY: Part = (
     ],
 );
 
-// Removes node 1 from node 0 twice. Each observer is notified of the change once, and of none after all were notified.
+// Removes node 1 from node 0 twice. If it is refused, the registrations are those from before. Each observer is notified of the change once, and of none after all were notified.
 const A_NODE_LEAVES_MANY: &[Part] = &[
     BEGIN_MANY,
-    (2, &[Row::Do(Call::Leave)]),
+    (
+        1,
+        &[
+            Row::Try(Call::Leave),
+            Row::Then(When::Refused, &[Fact::Counts(9, 9)]),
+            Row::Again(Call::Leave),
+            Row::Then(When::Always, &[Fact::Counts(9, 18)]),
+            Row::Try(Call::Leave),
+            Row::Then(When::Refused, &[Fact::Counts(9, 18)]),
+            Row::Again(Call::Leave),
+            Row::Then(When::Always, &[Fact::Counts(9, 18)]),
+        ],
+    ),
     CHANGE_FOR_MANY,
     (
         1,
@@ -280,6 +300,50 @@ const EARLIER_RECORDS_STAY: &[Part] = &[
 #[test]
 fn earlier_records_stay(rt: HostRuntime) -> Result<(), Fail> {
     played(&rt, rt.alloc(), EARLIER_RECORDS_STAY)
+}
+
+// Removes node 1 from node 0, which nine observers observe with its descendants, and two with its children. If it is refused, there is no transient
+// registration and no record, and nobody is pending.
+const A_REMOVAL_IS_REFUSED: &[Part] = &[
+    BEGIN_MANY,
+    (
+        1,
+        &[
+            Row::Do(Call::Make),
+            Row::Do(Call::Watch(9, 0, Watched::Children)),
+            Row::Do(Call::Make),
+            Row::Do(Call::Watch(10, 0, Watched::Children)),
+            Row::Try(Call::LeaveAndTell),
+            Row::Then(
+                When::Refused,
+                &[
+                    Fact::Counts(11, 11),
+                    Fact::Named(1, false),
+                    Fact::Waiting(9, 0),
+                    Fact::Waiting(10, 0),
+                    Fact::Pending(0, None),
+                ],
+            ),
+            Row::Again(Call::LeaveAndTell),
+            Row::Then(
+                When::Always,
+                &[
+                    Fact::Counts(11, 20),
+                    Fact::Named(1, true),
+                    Fact::Waiting(9, 1),
+                    Fact::Waiting(10, 1),
+                    Fact::Pending(0, Some(9)),
+                    Fact::Pending(1, Some(10)),
+                    Fact::Pending(2, None),
+                ],
+            ),
+        ],
+    ),
+];
+
+#[test]
+fn a_removal_is_refused(rt: HostRuntime) -> Result<(), Fail> {
+    played(&rt, rt.alloc(), A_REMOVAL_IS_REFUSED)
 }
 
 // Observers are made and released, and no number is reused. Each of two thousand is made and released. Then two are made, and the second moves into

@@ -41,6 +41,8 @@ pub enum Call {
     Leave,
     /// Queues the record of the removal of node 1 from node 0.
     TellOfLeaving,
+    /// Does both in one call.
+    LeaveAndTell,
     /// Notifies the observers, and expects how many get records.
     Notify(usize),
     /// Takes the pending observers, and expects how many there are.
@@ -258,6 +260,29 @@ fn tell_of_leaving(
     observers.queue_record(tree, &mutation)
 }
 
+// Removes node 1 from node 0, and queues the record of it.
+fn leave_and_tell(
+    rt: &impl Abort,
+    observers: &mut Observers,
+    tree: &Tree<u8>,
+) -> Result<(), AllocError> {
+    let target = NodeId::new(0);
+    let node = NodeId::new(1);
+    assert!(rt; tree.holds(target));
+    assert!(rt; !tree.is_ancestor(node, target));
+    let mutation = Mutation {
+        what: RecordType::ChildList,
+        target,
+        added: &[],
+        removed: &[node],
+        previous: None,
+        next: None,
+        name: None,
+        old_value: None,
+    };
+    observers.removed(tree, node, &mutation)
+}
+
 // Notifies the observers, and asserts how many get records.
 fn notify(rt: &impl Abort, observers: &mut Observers, count: usize) -> Result<(), AllocError> {
     let told = observers.notify()?;
@@ -324,6 +349,7 @@ fn called(
         }
         Call::Leave => return leave(rt, observers, tree),
         Call::TellOfLeaving => return tell_of_leaving(rt, observers, tree),
+        Call::LeaveAndTell => return leave_and_tell(rt, observers, tree),
         Call::Notify(count) => return notify(rt, observers, count),
         Call::TakePending(count) => return take_pending(rt, observers, count),
         Call::TellInTurn(number, count) => tell_in_turn(rt, observers, number, count),

@@ -1,13 +1,13 @@
 -- The record of a changed attribute.
-use Rattle.std.proofs.Common.{◌∷◌, [], Some, refl, subst}
-use Rattle.std.proofs.lemmas.Result.{on_ok_weaker}
+use Rattle.std.proofs.Common.{◌∷◌, [], Some, refl, ap, sym, ◌∙◌, subst}
+use Rattle.std.proofs.lemmas.Result.{on_ok_weaker, on_err_weaker}
 use Rattle.dom_model.specs.Definitions.{attribute_value, Forest, entry_in, ancestors, Content, Mutation, Observing, standing_on, noted, content_in, attributes_of}
 use Rattle.dom_model.specs.declared.RecordType.TheVariants.{Attributes}
 use Rattle.dom_edit.specs.declared.world.World.{World}
 use Rattle.dom_edit.proofs.{KeepsNodesLemmas.one-there, AreThereLemmas.whole-named, UnobservedLemmas.follows-unheard_mutation}
-use Rattle.dom_observe.specs.{ObservedNodes.nodes_of_mutation, ObservedNodes.NamesOnly, Watchers.Watches}
+use Rattle.dom_observe.specs.{ObservedNodes.nodes_of_mutation, ObservedNodes.NamesOnly, Undoing.IsQueued, Watchers.Watchers, Watchers.Watches}
 use Rattle.dom_data.specs.Changes.{change_of}
-use Rattle.dom_data.proofs.QueuesMutationLemmas.{follows-told}
+use Rattle.dom_data.proofs.QueuesMutationLemmas.{follows-told, queued-unheard}
 use Rattle.dom_data.proofs.records.queue_attribute_record.Goals as goal
 
 pub returns-clause-told : goal.returns-clause-told
@@ -37,3 +37,18 @@ returns-then-is_idle-clause-told c =
     let n = c.args.node in
     let name = c.args.name.now in
     follows-unheard_mutation c.args.world.now (λ w. change_of Attributes n (Some name) (attribute_value name (attributes_of w n))) (λ x o. c.is_idle.ensures.idle x o c.if-is_idle.true)
+
+pub returns-clause-own : goal.returns-clause-own
+returns-clause-own c =
+    let v = c.args.world.now in
+    on_ok_weaker c.queue_record.result
+    (λ own. subst (λ (m : Mutation). IsQueued (ancestors m.target v.tree.forest) m v.observers c.queue_record.new.self) c.attribute_change-mutation.ensures own)
+    c.queue_record.ensures.own
+
+pub returns-clause-err : goal.returns-clause-err
+returns-clause-err c =
+    on_err_weaker c.queue_record.result (λ err. ap (λ (o : Watchers). record c.args.world.now { observers = o }) err) c.queue_record.ensures.err
+
+pub returns-then-is_idle-clause-own : goal.returns-then-is_idle-clause-own
+returns-then-is_idle-clause-own c =
+    queued-unheard (ancestors c.args.node c.args.world.now.tree.forest) _ c.args.world.now.observers (sym c.is_idle.ensures.own ∙ c.if-is_idle.true)

@@ -1,5 +1,5 @@
 -- The next pending observer is told what waits for it.
-use Rattle.std.proofs.Common.{◌≡◌, ℕ, suc, ◌+◌, ◌==◌, [], Bool, true, false, if◌then◌else◌, List, Some, None, length, filter, map, take, refl, ap, sym, ◌∙◌, arith, option_copied, nat_eq, tests, rules, slice_get}
+use Rattle.std.proofs.Common.{◌≡◌, suc, ◌+◌, ◌==◌, [], Bool, true, false, if◌then◌else◌, List, Some, None, length, filter, map, take, refl, ap, sym, ◌∙◌, arith, option_copied, nat_eq, tests, rules, slice_get}
 use Rattle.std.proofs.lemmas.List.{take_all}
 use Rattle.std.specs.List.{IsDistinct, list_any}
 use Rattle.dom_model.specs.Definitions.{among, Record, has_records, nodes_of_record}

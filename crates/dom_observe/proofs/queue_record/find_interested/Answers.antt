@@ -1,5 +1,5 @@
 -- Each key gives one more listener, or none.
-use Rattle.std.proofs.Common.{◌≡◌, ℕ, ◌==◌, ◌||◌, ◌++◌, [], Bool, true, false, if◌then◌else◌, Some, None, take, nat_eq, ap, sym, ◌∙◌, subst, append-nil, arith, slice_index_or, unwrap_or, option_to_list}
+use Rattle.std.proofs.Common.{◌≡◌, ℕ, ◌==◌, ◌||◌, ◌++◌, [], Bool, false, if◌then◌else◌, Some, None, take, nat_eq, ap, sym, ◌∙◌, subst, append-nil, arith, slice_index_or, unwrap_or, option_to_list}
 use Rattle.std.proofs.lemmas.Grind.{common_steps}
 use Rattle.std.specs.Map.{keys_of, lookup}
 use Rattle.dom_model.specs.Definitions.{with_last, with_all_last}

@@ -1,5 +1,5 @@
 -- The next observer comes last.
-use Rattle.std.proofs.Common.{◌≡◌, ℕ, ◌+◌, suc, Bool, Some, None, take, ap, sym, ◌∙◌, arith, option_map, Bor, slice_get}
+use Rattle.std.proofs.Common.{◌≡◌, ℕ, ◌+◌, suc, Bool, None, take, ap, sym, ◌∙◌, arith, option_map, Bor, slice_get}
 use Rattle.std.specs.Map.{keys_of}
 use Rattle.dom_model.specs.Definitions.{with_last, with_all_last}
 use Rattle.dom_observe.proofs.{InterestedLemmas.keys-next, InterestedLemmas.take-none, InterestedLemmas.all_last-append, queue_record.mark_each.Goals.in-Some, queue_record.mark_each.Goals.in_default}

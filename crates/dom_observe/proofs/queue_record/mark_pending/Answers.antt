@@ -1,5 +1,5 @@
 -- Who is not there yet comes last.
-use Rattle.std.proofs.Common.{◌≡◌, sym, ◌∙◌, nat_eq}
+use Rattle.std.proofs.Common.{◌≡◌, ◌∙◌, nat_eq}
 use Rattle.indexmap.specs.IndexSet.{insert_key}
 use Rattle.dom_observe.proofs.InterestedLemmas.{insert-last}
 use Rattle.dom_observe.proofs.queue_record.mark_pending.Goals as goal

@@ -1,5 +1,5 @@
 -- Who is last already stays there, and else comes last.
-use Rattle.std.proofs.Common.{◌≡◌, IfOk, sym, ◌∙◌, subst, nat_eq}
+use Rattle.std.proofs.Common.{◌≡◌, IfOk, ◌∙◌, subst, nat_eq}
 use Rattle.indexmap.specs.IndexSet.{insert_key}
 use Rattle.dom_observe.proofs.InterestedLemmas.{insert-last}
 use Rattle.dom_observe.proofs.queue_record.mark_pending_reserved.Goals as goal

@@ -1,7 +1,7 @@
 -- A record comes last in the queue, and the keys stay.
-use Rattle.std.proofs.Common.{◌==◌, if◌then◌else◌, [], ◌∷◌, ◌++◌, is_some, refl, ap, sym, ◌∙◌, subst}
-use Rattle.dom_observe.specs.{Watchers.queue_at, Watchers.records_at, Roster.queues_by, Roster.IsFresh}
-use Rattle.dom_observe.proofs.{ResultLemmas.on_ok, ResultLemmas.on_err, IsFreshLemmas.fresh-set, QueueListLemmas.records-pushed, RosterLemmas.has-kept, RosterLemmas.queue-there, RosterLemmas.keys-same, RosterLemmas.queues-set, RosterLemmas.roster-same}
+use Rattle.std.proofs.Common.{◌==◌, if◌then◌else◌, [], ◌∷◌, ◌++◌, is_some, refl, ap, sym, ◌∙◌}
+use Rattle.dom_observe.specs.{Watchers.queue_at, Watchers.records_at, Roster.queues_by}
+use Rattle.dom_observe.proofs.{ResultLemmas.on_ok, ResultLemmas.on_err, QueueListLemmas.records-pushed, RosterLemmas.has-kept, RosterLemmas.queue-there, RosterLemmas.keys-same, RosterLemmas.queues-set, RosterLemmas.roster-same}
 use Rattle.dom_observe.proofs.queue_record.push_record.Goals as goal
 
 pub get_mut-kept-requires : goal.get_mut-kept-requires
@@ -16,13 +16,6 @@ returns-clause-ok c =
     ap (λ qs. records_at qs p) (queues-set roster c.new.result (record kept { queue = c.push.new.self }))
     ∙ records-pushed (queues_by roster) c.new.result kept.queue.records at c.push.new.self.records c.args.told pushed p
     ∙ ap (λ i. if i == p then records_at (queues_by roster) p ++ c.args.told ∷ [] else records_at (queues_by roster) p) c.new.ensures)
-
-pub returns-clause-fresh : goal.returns-clause-fresh
-returns-clause-fresh c =
-    on_ok c.push.result c.push.ensures.fresh (λ fresh p others.
-    let roster = c.args.roster.now in
-    let kept = c.get_mut-kept.result.now in
-    fresh-set roster c.new.result kept (record kept { queue = c.push.new.self }) c.get_mut-kept.ensures.value fresh p (λ ne. others (λ e. ne (c.new.ensures ∙ e))))
 
 pub returns-clause-err : goal.returns-clause-err
 returns-clause-err c =

@@ -1,10 +1,10 @@
 -- Each listener gets its record once.
-use Rattle.std.proofs.Common.{◌≡◌, ℕ, ◌==◌, ◌++◌, Bool, true, false, if◌then◌else◌, List, Option, Some, None, IsSome, subst, take, nat_eq, refl, ap, sym, ◌∙◌, append-nil, arith, suc, ◌+◌, option_map, Bor, slice_get}
+use Rattle.std.proofs.Common.{◌≡◌, ℕ, ◌==◌, ◌++◌, Bool, true, false, if◌then◌else◌, List, Option, Some, None, take, nat_eq, refl, ap, sym, ◌∙◌, append-nil, arith, suc, ◌+◌, option_map, Bor, slice_get}
 use Rattle.std.proofs.lemmas.List.{take_all}
-use Rattle.std.specs.Map.{lookup}
+use Rattle.std.specs.Map.{lookup, keys_of}
 use Rattle.dom_model.specs.Definitions.{Mutation, Record}
-use Rattle.dom_observe.specs.{Invariant.has_queue, Roster.queues_by, Roster.IsFresh, Interested.delivered, Watchers.records_at}
-use Rattle.dom_observe.proofs.{InterestedLemmas.key-at, InterestedLemmas.lookup-next, InterestedLemmas.lookup-other, InterestedLemmas.take-none, RosterLemmas.has-same, RosterLemmas.queues-alike, queue_record.queue_for_each.Goals.in-Some+in_default-push_record_of, queue_record.queue_for_each.Goals.in_default}
+use Rattle.dom_observe.specs.{Invariant.has_queue, Roster.queues_by, Interested.delivered, Watchers.records_at}
+use Rattle.dom_observe.proofs.{InterestedLemmas.key-at, InterestedLemmas.lookup-next, InterestedLemmas.take-none, RosterLemmas.has-same, RosterLemmas.queues-alike, RegistrationTableLemmas.all_imply, queue_record.queue_for_each.Goals.in-Some+in_default-push_record_of, queue_record.queue_for_each.Goals.in_default}
 use Rattle.dom_observe.proofs.queue_record.queue_for_each.Goals as goal
 
 -- one more record, or none
@@ -34,8 +34,10 @@ returns-in-Err-clause-err c =
     queues-alike c.args.roster.now c.take_back.new.roster (c.take_back.ensures.keys ∙ c.push_record_of.ensures.keys ∙ c.loop-index.invariant.keys)
     (c.take_back.ensures.left c.args.mutation.now (λ p. records_at (queues_by c.args.roster.now) p) (λ p. ap (λ r. records_at (queues_by r) p) same ∙ c.loop-index.invariant.told p))
 
-pub take_back-requires-clause-fresh : goal.take_back-requires-clause-fresh
-take_back-requires-clause-fresh c = λ p some. subst (λ r. IsFresh r p) (sym c.in-Err.ensures.err) (c.loop-index.invariant.fresh p some)
+pub take_back-requires-clause-there : goal.take_back-requires-clause-there
+take_back-requires-clause-there c =
+    let keys = c.push_record_of.ensures.keys ∙ c.loop-index.invariant.keys in
+    all_imply (λ o. has_queue (queues_by c.args.roster.now) o ≡ true) (λ o. has_queue (queues_by c.push_record_of.new.roster) o ≡ true) (λ o there. has-same c.args.roster.now c.push_record_of.new.roster keys o ∙ there) (keys_of c.args.heard.now.entries) c.requires.there
 
 pub loop-index-preserved : goal.loop-index-preserved
 loop-index-preserved c =
@@ -53,8 +55,6 @@ loop-index-preserved c =
                 let n = lookup-next p es i (w.in-Some.observer.now, w.in-Some.asks.now) c.requires.unique at in
                 one_more m _ _ _ w.in-Some.asks.now (w.in-Some.observer.now == p) (lookup (nat_eq p) (take i es)) (lookup (nat_eq p) (take (i + 1) es))
                 (inv.told p) (w.in_default-push_record_of.ensures.told p) (ap (λ k. lookup (nat_eq p) (take k es)) next ∙ n.0) n.1;
-            fresh = λ p some. w.in_default-push_record_of.ensures.fresh p (λ ne.
-                inv.fresh p (lookup-other es i (w.in-Some.observer.now, w.in-Some.asks.now) c.requires.unique at p ne (subst (λ (j : ℕ). IsSome (lookup (nat_eq p) (take j es))) next some)));
           })
       | in_default w ↦
           let none : slice_get es i ≡ None = sym c.get_index.ensures.entry ∙ ap (option_map (λ (p : Bor ℕ × Bor Bool). (p.0.now, p.1.now))) w.in_default.is in
@@ -62,6 +62,5 @@ loop-index-preserved c =
           rw w.roster-is (record {
             keys = inv.keys;
             told = λ p. inv.told p ∙ sym (ap (λ k. records_at (queues_by c.args.roster.now) p ++ delivered m (lookup (nat_eq p) k)) same_entries);
-            fresh = λ p some. inv.fresh p (subst (λ k. IsSome (lookup (nat_eq p) k)) same_entries some);
           })
     ]

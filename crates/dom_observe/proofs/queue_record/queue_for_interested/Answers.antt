@@ -1,9 +1,10 @@
 -- One listener alone, or each of them, gets a record and is pending.
-use Rattle.std.proofs.Common.{◌≡◌, ℕ, ◌==◌, ◌++◌, [], Bool, true, if◌then◌else◌, Some, None, refl, ap, sym, ◌∙◌, subst, append-nil}
+use Rattle.std.proofs.Common.{◌≡◌, ℕ, ◌==◌, ◌++◌, [], Bool, true, if◌then◌else◌, Some, None, ap, sym, ◌∙◌, subst, append-nil, arith, length}
 use Rattle.std.specs.{List.list_any, Map.keys_of}
-use Rattle.dom_model.specs.Definitions.{among, with_last, with_all_last, nodes_of_record}
+use Rattle.indexmap.specs.IndexSet.{spare}
+use Rattle.dom_model.specs.Definitions.{among, with_all_last, nodes_of_record}
 use Rattle.dom_observe.specs.{Invariant.AllThere, Names.given_name, Registrations.at, Roster.queues_by, Roster.is_there, Roster.records_of, Interested.listeners, Interested.flag_of, Interested.delivered, Watchers.records_at}
-use Rattle.dom_observe.proofs.{NamedNodesLemmas.tells-delivered, ResultLemmas.on_ok, ResultLemmas.on_err, ResultLemmas.by_one, ResultLemmas.by_both, QueueRecordLemmas.unheard, InterestedLemmas.stay-last, InterestedLemmas.stay-all_last, InterestedLemmas.there-last, InterestedLemmas.there-all_last, InterestedLemmas.all_last-twice}
+use Rattle.dom_observe.proofs.{NamedNodesLemmas.tells-delivered, ResultLemmas.on_ok, ResultLemmas.on_err, ResultLemmas.by_one, ResultLemmas.by_both, QueueRecordLemmas.unheard, InterestedLemmas.stay-last, InterestedLemmas.stay-all_last, InterestedLemmas.there-last, InterestedLemmas.there-all_last, InterestedLemmas.all_last-twice, UndoingLemmas.long-listeners, UndoingLemmas.room-queued}
 use Rattle.dom_observe.proofs.queue_record.queue_for_interested.Goals as goal
 
 pub queue_for_one-requires : goal.queue_for_one-requires
@@ -94,3 +95,31 @@ returns-clause-names c = λ p nameless none o.
     by_one c.queue_for_several.result c.queue_for_several.ensures.told c.queue_for_several.ensures.err
     (λ told. ap (list_any (λ r. list_any p (nodes_of_record r))) (told o ∙ ap (λ v. old ++ delivered c.args.mutation.now v) (c.in_ok-heard.ensures.heard o)) ∙ tells-delivered p c.args.mutation.now (flag_of o ls) old nameless (none o))
     (λ same. ap (λ qs. list_any (λ r. list_any p (nodes_of_record r)) (records_at qs o)) same ∙ none o)
+
+-- and there is room for them
+
+pub returns-in-Some-clause-room : goal.returns-in-Some-clause-room
+returns-in-Some-clause-room c = λ had.
+    let q = c.question-question.result in
+    let u = at c.args.registrations.now in
+    let ls = listeners u q.what q.target (given_name q.name) c.args.standing.now in
+    let old = c.args.pending.now.keys in
+    by_one c.queue_for_one.result c.queue_for_one.ensures.pending c.queue_for_one.ensures.err_pending
+    (λ pended.
+    room-queued old c.queue_for_one.new.pending.keys (keys_of ls) c.args.standing.now (spare c.reserve.new.self)
+    (pended ∙ sym (c.in-Some.ensures.only.pends old)) (long-listeners u q.what q.target (given_name q.name) c.args.standing.now)
+    (omega (arith, c.in_ok-reserve.ensures.ok, c.len.ensures.len)))
+    (λ same. omega (arith, ap length same, c.reserve.ensures.room.0, had))
+
+pub returns-clause-room : goal.returns-clause-room
+returns-clause-room c = λ had.
+    let q = c.question-question.result in
+    let u = at c.args.registrations.now in
+    let ls = listeners u q.what q.target (given_name q.name) c.args.standing.now in
+    let old = c.args.pending.now.keys in
+    by_one c.queue_for_several.result c.queue_for_several.ensures.pending c.queue_for_several.ensures.err_pending
+    (λ pended.
+    room-queued old c.queue_for_several.new.pending.keys (keys_of ls) c.args.standing.now (spare c.reserve.new.self)
+    (pended ∙ ap (with_all_last old) c.in_ok-heard.ensures.order ∙ all_last-twice old [] (keys_of ls)) (long-listeners u q.what q.target (given_name q.name) c.args.standing.now)
+    (omega (arith, c.in_ok-reserve.ensures.ok, c.len.ensures.len)))
+    (λ same. omega (arith, ap length same, c.reserve.ensures.room.0, had))

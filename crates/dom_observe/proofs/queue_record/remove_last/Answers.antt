@@ -1,18 +1,11 @@
 -- The last record goes, and the keys stay.
-use Rattle.std.proofs.Common.{◌==◌, ◌-◌, if◌then◌else◌, length, take, is_some, refl, ap, sym, ◌∙◌, subst}
-use Rattle.dom_observe.specs.{Watchers.queue_at, Watchers.records_at, Roster.queues_by, Roster.IsFresh}
-use Rattle.dom_observe.proofs.{IsFreshLemmas.fresh-there, IsFreshLemmas.fresh-here, IsFreshLemmas.fresh-apart, QueueListLemmas.records-shortened, RosterLemmas.has-kept, RosterLemmas.queue-there, RosterLemmas.keys-same, RosterLemmas.queues-set}
+use Rattle.std.proofs.Common.{◌==◌, ◌-◌, if◌then◌else◌, length, take, is_some, refl, ap, sym, ◌∙◌}
+use Rattle.dom_observe.specs.{Watchers.queue_at, Watchers.records_at, Roster.queues_by}
+use Rattle.dom_observe.proofs.{QueueListLemmas.records-shortened, RosterLemmas.has-kept, RosterLemmas.queue-there, RosterLemmas.keys-same, RosterLemmas.queues-set}
 use Rattle.dom_observe.proofs.queue_record.remove_last.Goals as goal
 
 pub get_mut-kept-requires : goal.get_mut-kept-requires
-get_mut-kept-requires c = sym (has-kept c.args.roster.now c.new.result) ∙ ap (λ i. is_some (queue_at (queues_by c.args.roster.now) i)) c.new.ensures ∙ fresh-there c.args.roster.now c.args.observer c.requires
-
-pub remove_last-requires : goal.remove_last-requires
-remove_last-requires c = fresh-here c.args.roster.now c.new.result c.get_mut-kept.result.now c.get_mut-kept.ensures.value (subst (IsFresh c.args.roster.now) (sym c.new.ensures) c.requires)
-
-pub returns-clause-fresh : goal.returns-clause-fresh
-returns-clause-fresh c = λ p ne h.
-    fresh-apart c.args.roster.now c.new.result (record c.get_mut-kept.result.now { queue = c.remove_last.new.self }) p (λ e. ne (sym c.new.ensures ∙ e)) h
+get_mut-kept-requires c = sym (has-kept c.args.roster.now c.new.result) ∙ ap (λ i. is_some (queue_at (queues_by c.args.roster.now) i)) c.new.ensures ∙ c.requires
 
 pub returns-clause-keys : goal.returns-clause-keys
 returns-clause-keys c = keys-same c.args.roster.now c.new.result c.get_mut-kept.result.now c.get_mut-kept.ensures.value (record c.get_mut-kept.result.now { queue = c.remove_last.new.self }) refl refl

@@ -1,10 +1,11 @@
 -- The node has the keys under which something is left.
 use Rattle.std.proofs.Common.{◌≡◌, [], false, ap, sym, ◌∙◌, subst, nat_eq}
-use Rattle.std.specs.Map.{lookup}
+use Rattle.std.specs.Map.{lookup, keys_of}
 use Rattle.std.proofs.lemmas.Bool.{true≢false}
 use Rattle.dom_model.specs.Definitions.{among}
 use Rattle.dom_observe.specs.{Watchers.on, Registrations.in_table, Registrations.listed, Registrations.is_live, Registrations.AllLive, Registrations.KeysLeft, Turns.turn_at, Turns.Rises}
 use Rattle.dom_observe.proofs.KeysLemmas.{items_in, on-lookup, keys-left, keys-absent, keys-of_entry}
+use Rattle.dom_observe.proofs.NodeOrderLemmas.{nodes-set}
 use Rattle.dom_observe.proofs.registration_removal.end_key_on.Goals as goal
 
 -- a node with the key is listed
@@ -41,3 +42,13 @@ end_key-requires-clause-live c =
 
 pub end_key-requires-clause-there : goal.end_key-requires-clause-there
 end_key-requires-clause-there c = ap (among c.args.key) (keys-of_entry c.number.result c.args.nodes.now.entries c.in-Some.keys.now c.in-Some.ensures.value c.args.node c.number.ensures) ∙ c.requires.there
+
+-- the nodes stay, with fewer keys or not
+
+pub returns-in-Some-clause-nodes : goal.returns-in-Some-clause-nodes
+returns-in-Some-clause-nodes c =
+    let written = c.get_mut.follows.holds c.end_key.new.keys in
+    ap (λ es. keys_of (listed es)) written.0 ∙ nodes-set c.number.result c.args.nodes.now.entries c.end_key.new.keys
+
+pub returns-in-None-clause-nodes : goal.returns-in-None-clause-nodes
+returns-in-None-clause-nodes c = ap (λ m. keys_of (listed m.entries)) c.get_mut.follows.holds-at-none

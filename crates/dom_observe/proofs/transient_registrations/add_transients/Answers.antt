@@ -1,215 +1,61 @@
--- Each key gives the node one more transient registration, or none.
-use Rattle.std.proofs.Common.{◌≡◌, refl, List, if◌then◌else◌, ◌==◌, Bool, true, false, Some, None, option_map, take, ap, sym, ◌∙◌, subst, slice_index_or, slice_set}
+-- What was added is ended again if memory runs out.
+use Rattle.std.proofs.Common.{◌≡◌, true, ◌++◌, length, take, drop, is_some, ap, sym, ◌∙◌, subst, arith}
 use Rattle.std.specs.List.{AllByRecursion}
-use Rattle.dom_observe.specs.{Watchers.on, Registrations.plain, Registrations.at, Registrations.found, Registrations.AllStand, Registrations.HaveSources, Registrations.Agree, Registrations.transient_under, Registrations.ByOrigin, Registrations.IsPast, QueuedNodes.NamesNone, OutOfMemory.IsFront, Invariant.has_queue, Invariant.IsIndexed, Roster.passing_by, Roster.queues_by, Origins.NotesIfAny, Origins.AlsoNotes}
-use Rattle.dom_observe.proofs.{AgreeLemmas.agree-made, AgreeLemmas.alone-made, AgreeLemmas.agree-transient, NamedNodesLemmas.none-added, NamedNodesLemmas.none-made, InterestedLemmas.last-there, IsIndexedLemmas.indexed-pended, IsIndexedLemmas.indexed-transient, IsIndexedLemmas.made-transient, RosterLemmas.has-kept, RosterLemmas.within-passing, RosterLemmas.passing-there, RosterLemmas.passing-set, RosterLemmas.passing-same, RosterLemmas.lasting-same, RosterLemmas.queues-same, OriginsLemmas.noted-added, AreRegisteredLemmas.are-live, IsFrontLemmas.front-same, IsFrontLemmas.front-added, IsFrontLemmas.elsewhere-same, HaveSourcesLemmas.sources-added, HaveSourcesLemmas.source-made, RegistrationTableLemmas.alike_self, RegistrationTableLemmas.turn-none, RegistrationTableLemmas.turn-added, RegistrationTableLemmas.turn-alike, RegistrationTableLemmas.turn-stands, transient_registrations.add_transients.Goals.in-Some+in_ok-note+in_ok-mark_pending+in_ok-add, transient_registrations.add_transients.Goals.in_default}
-use Rattle.dom_model.specs.Definitions.{with_last}
+use Rattle.std.proofs.Math.Seq.{take-append_seam, drop-append_seam}
+use Rattle.dom_model.specs.Definitions.{Registration}
+use Rattle.dom_model.proofs.PlainLists.Numbers.{same_or, same, apart}
+use Rattle.dom_observe.specs.{Watchers.on, Invariant.has_queue, Roster.is_there, Registrations.at, Registrations.found, Registrations.AllStand}
+use Rattle.dom_observe.proofs.{AreRegisteredLemmas.are-live, OneGoneLemmas.live-length, NodeOrderLemmas.registered-alike}
 use Rattle.dom_observe.proofs.transient_registrations.add_transients.Goals as goal
 
-nothing_yet : {A : Type 0} (b : Bool) (rs : List A) → rs ≡ (if b then rs else rs)
-nothing_yet true rs = refl
-nothing_yet false rs = refl
+pub end_added-requires-clause-stand : goal.end_added-requires-clause-stand
+end_added-requires-clause-stand c =
+    let e = c.add_each_transient.ensures in
+    let b = c.add_each_transient.new.registrations in
+    subst (λ qs. AllStand (at b) (has_queue qs) b.lists) (sym e.queues) (e.all_stand (is_there c.args.roster.now) c.requires.there c.requires.stand)
 
-pub loop-key-init : goal.loop-key-init
-loop-key-init c = record {
-  noted = subst (λ own. NotesIfAny (at c.args.registrations.now) own c.in_ok-origins.origins.noted) c.keys_on.ensures c.in_ok-origins.ensures;
-  standing = alike_self (at c.args.registrations.now) c.args.standing.now;
-  has = λ n. nothing_yet (c.args.node == n) _;
-  stands = λ there bounded all. all;
-  names = λ p here keys none. none;
-  indexed = λ lasts there bounded ix. ix;
-  sources = λ have. have;
-  agree = λ have. have;
-  lasting = refl;
-  queues = refl;
-  sound = c.state_law.ensures;
-}
+pub end_added-requires-clause-passing : goal.end_added-requires-clause-passing
+end_added-requires-clause-passing c =
+    let a = c.args.registrations.now in
+    let had = found a (on c.args.node a.lists) in
+    let g = c.add_each_transient.ensures.added in
+    let long : length c.keys_on-count.result.now ≡ length had = omega (arith, ap length c.keys_on-count.ensures, live-length (at a) (on c.args.node a.lists) (are-live c.state_law.ensures c.args.node)) in
+    subst (AllByRecursion (λ (r : Registration). is_some r.source ≡ true))
+    (sym (ap (drop (length c.keys_on-count.result.now)) g.last ∙ ap (λ j. drop j (had ++ g.more)) long ∙ drop-append_seam had g.more)) g.passing
 
-pub returns-in_err-add-clause-stay : goal.returns-in_err-add-clause-stay
-returns-in_err-add-clause-stay c = subst (λ r. AllByRecursion (λ k. at r k ≡ at c.args.registrations.now k) c.args.standing.now) (sym c.in_err-add.ensures.err) c.loop-key.invariant.standing
+pub returns-in-Err-clause-err : goal.returns-in-Err-clause-err
+returns-in-Err-clause-err c =
+    let a = c.args.registrations.now in
+    let e = c.end_added.new.registrations in
+    let had = found a (on c.args.node a.lists) in
+    let g = c.add_each_transient.ensures.added in
+    let counted : length (on c.args.node a.lists) ≡ length c.keys_on-count.result.now = omega (arith, ap length c.keys_on-count.ensures) in
+    let long : length c.keys_on-count.result.now ≡ length had = omega (arith, counted, live-length (at a) (on c.args.node a.lists) (are-live c.state_law.ensures c.args.node)) in
+    let here : found e (on c.args.node e.lists) ≡ had =
+    c.end_added.ensures.kept ∙ ap (take (length c.keys_on-count.result.now)) g.last ∙ ap (λ j. take j (had ++ g.more)) long ∙ take-append_seam had g.more in
+    registered-alike a e c.state_law.ensures.unique (c.end_added.ensures.nodes a.lists c.state_law.ensures.full counted c.add_each_transient.ensures.nodes)
+    (λ n. elim (same_or n c.args.node) [
+      | same d _ ↦ subst (λ m. found e (on m e.lists) ≡ found a (on m a.lists)) (sym d) here
+      | apart ne _ ↦ c.end_added.ensures.elsewhere n ne ∙ c.add_each_transient.ensures.elsewhere n ne
+    ])
 
-pub returns-in_err-add-clause-all_stand : goal.returns-in_err-add-clause-all_stand
-returns-in_err-add-clause-all_stand c = λ there bounded all. subst (λ r. AllStand (at r) there r.lists) (sym c.in_err-add.ensures.err) (c.loop-key.invariant.stands there bounded all)
+pub returns-in-Err-clause-all_stand : goal.returns-in-Err-clause-all_stand
+returns-in-Err-clause-all_stand c = λ p bounded all. c.end_added.ensures.all_stand p (c.add_each_transient.ensures.all_stand p bounded all)
 
-pub returns-in_err-add-clause-names : goal.returns-in_err-add-clause-names
-returns-in_err-add-clause-names c = λ p here keys none. subst (λ r. NamesNone p (at r) r.lists) (sym c.in_err-add.ensures.err) (c.loop-key.invariant.names p here keys none)
+pub returns-in-Err-clause-names : goal.returns-in-Err-clause-names
+returns-in-Err-clause-names c = λ p here keys none. c.end_added.ensures.names p (c.add_each_transient.ensures.names p here keys none)
 
-pub returns-in_err-add-clause-sources : goal.returns-in_err-add-clause-sources
-returns-in_err-add-clause-sources c = λ have. subst (λ r. HaveSources (at r)) (sym c.in_err-add.ensures.err) (c.loop-key.invariant.sources have)
+pub returns-in-Err-clause-indexed : goal.returns-in-Err-clause-indexed
+returns-in-Err-clause-indexed c = λ lasts p bounded ix. c.end_added.ensures.indexed lasts c.add_each_transient.new.fleeting.keys p (c.add_each_transient.ensures.indexed lasts p bounded ix)
 
-pub returns-in_err-add-clause-agree : goal.returns-in_err-add-clause-agree
-returns-in_err-add-clause-agree c = λ have. subst (λ r. Agree (at r)) (sym c.in_err-add.ensures.err) (c.loop-key.invariant.agree have)
+pub returns-in-Err-clause-sources : goal.returns-in-Err-clause-sources
+returns-in-Err-clause-sources c = λ have. c.end_added.ensures.sources (c.add_each_transient.ensures.sources have)
 
-pub returns-in_err-mark_pending-clause-indexed : goal.returns-in_err-mark_pending-clause-indexed
-returns-in_err-mark_pending-clause-indexed c = λ lasts there bounded ix.
-    subst (λ some. IsIndexed (at c.loop-key.registrations) lasts (passing_by c.loop-key.roster) some there) (sym c.in_err-mark_pending.ensures.err) (c.loop-key.invariant.indexed lasts there bounded ix)
+pub returns-in-Err-clause-agree : goal.returns-in-Err-clause-agree
+returns-in-Err-clause-agree c = λ have. c.end_added.ensures.agree (c.add_each_transient.ensures.agree have)
 
--- the observer of a registration that is made is there
-pub get_mut-kept-requires : goal.get_mut-kept-requires
-get_mut-kept-requires c =
-    let u0 = at c.args.registrations.now in
-    let u = at c.loop-key.registrations in
-    let i = c.loop-key.key-index in
-    let own = on c.args.node c.loop-key.registrations.lists in
-    let some : transient_under u own c.args.node (slice_index_or c.args.standing.now i 0) ≡ Some (plain c.in-Some.made) = ap (λ ks. transient_under u ks c.args.node (slice_index_or c.args.standing.now i 0)) (sym c.keys_on-in-loop-key.ensures) ∙ sym c.in_ok-made.ensures ∙ ap (option_map plain) c.in-Some.is in
-    let shape = made-transient u0 u own c.args.node c.args.standing.now i 0 c.loop-key-test.true c.loop-key.invariant.standing (plain c.in-Some.made) some in
-    sym (has-kept c.loop-key.roster c.in-Some.made.observer)
-    ∙ ap (λ qs. has_queue qs c.in-Some.made.observer) c.loop-key.invariant.queues
-    ∙ shape.0 (has_queue (queues_by c.args.roster.now)) c.requires.there
+pub returns-in-Err-clause-lasting : goal.returns-in-Err-clause-lasting
+returns-in-Err-clause-lasting c = c.end_added.ensures.lasting ∙ c.add_each_transient.ensures.lasting
 
-pub returns-in_err-add-clause-lasting : goal.returns-in_err-add-clause-lasting
-returns-in_err-add-clause-lasting c =
-    lasting-same c.loop-key.roster c.in-Some.made.observer c.get_mut-kept.result.now c.get_mut-kept.ensures.value (record c.get_mut-kept.result.now { passing = c.add.new.keys }) refl ∙ c.loop-key.invariant.lasting
-
-pub returns-in_err-add-clause-queues : goal.returns-in_err-add-clause-queues
-returns-in_err-add-clause-queues c =
-    queues-same c.loop-key.roster c.in-Some.made.observer c.get_mut-kept.result.now c.get_mut-kept.ensures.value (record c.get_mut-kept.result.now { passing = c.add.new.keys }) refl ∙ c.loop-key.invariant.queues
-
-pub returns-in_err-add-clause-indexed : goal.returns-in_err-add-clause-indexed
-returns-in_err-add-clause-indexed c = λ lasts there bounded ix.
-    let u0 = at c.args.registrations.now in
-    let u = at c.loop-key.registrations in
-    let inv = c.loop-key.invariant in
-    let i = c.loop-key.key-index in
-    let own = on c.args.node c.loop-key.registrations.lists in
-    let some : transient_under u own c.args.node (slice_index_or c.args.standing.now i 0) ≡ Some (plain c.in-Some.made) = ap (λ ks. transient_under u ks c.args.node (slice_index_or c.args.standing.now i 0)) (sym c.keys_on-in-loop-key.ensures) ∙ sym c.in_ok-made.ensures ∙ ap (option_map plain) c.in-Some.is in
-    let shape = made-transient u0 u own c.args.node c.args.standing.now i 0 c.loop-key-test.true inv.standing (plain c.in-Some.made) some in
-    let o = c.in-Some.made.observer in
-    let kept = c.get_mut-kept.result.now in
-    let same_keys = passing-same c.loop-key.roster o kept c.get_mut-kept.ensures.value (record kept { passing = c.add.new.keys }) c.in_err-add.ensures.err_own in
-    let roster' = slice_set c.loop-key.roster o (Some (record kept { passing = c.add.new.keys })) in
-    subst (λ r. IsIndexed (at r) lasts (passing_by roster') c.mark_pending.new.pending.keys there) (sym c.in_err-add.ensures.err)
-    (subst (λ l. IsIndexed u lasts l c.mark_pending.new.pending.keys there) (sym same_keys)
-    (subst (λ some. IsIndexed u lasts (passing_by c.loop-key.roster) some there) (sym c.in_ok-mark_pending.ensures.ok)
-    (indexed-pended u lasts (passing_by c.loop-key.roster) c.loop-key.fleeting.keys there o (shape.0 there bounded) (inv.indexed lasts there bounded ix))))
-
-pub loop-key-preserved : goal.loop-key-preserved
-loop-key-preserved c =
-    let u0 = at c.args.registrations.now in
-    let u = at c.loop-key.registrations in
-    let inv = c.loop-key.invariant in
-    let lists0 = c.args.registrations.now.lists in
-    let lists = c.loop-key.registrations.lists in
-    let keys = c.args.standing.now in
-    let i = c.loop-key.key-index in
-    let own = on c.args.node lists in
-    let live = are-live inv.sound in
-    elim c.match-branch-3.branch [
-      | in-Some+in_ok-note+in_ok-mark_pending+in_ok-add w ↦
-          let some : transient_under u own c.args.node (slice_index_or keys i 0) ≡ Some (plain w.in-Some.made) = ap (λ ks. transient_under u ks c.args.node (slice_index_or keys i 0)) (sym c.keys_on-in-loop-key.ensures) ∙ sym c.in_ok-made.ensures ∙ ap (option_map plain) w.in-Some.is in
-          let a = w.in_ok-add.ensures.ok in
-          let v = at w.add.new.self in
-          let lists' = w.add.new.self.lists in
-          rw (w.registrations-is, w.roster-is, w.fleeting-is, w.origins-is) (record {
-            noted = noted-added u lists (plain w.in-Some.made) v lists' a live c.args.node (slice_index_or keys i 0) some c.loop-key.origins.noted w.note.new.self.noted inv.noted
-                (subst (λ n. AlsoNotes w.in-Some.made.observer n c.loop-key.origins.noted w.note.new.self.noted) w.origin-origin.ensures w.in_ok-note.ensures);
-            standing = turn-alike u0 u lists0 lists c.args.node keys i 0 c.loop-key-test.true live inv.standing inv.has (plain w.in-Some.made) some v lists' a c.requires.standing;
-            has = turn-added u0 u lists0 lists c.args.node keys i 0 c.loop-key-test.true live inv.standing inv.has (plain w.in-Some.made) some v lists' a;
-            stands = λ there bounded all. turn-stands u0 u lists0 lists c.args.node keys i 0 c.loop-key-test.true live inv.standing inv.has (plain w.in-Some.made) some v lists' a there bounded (inv.stands there bounded all);
-            names = λ p here named none.
-                none-added p u lists (plain w.in-Some.made) v lists' a live
-                (none-made p u0 u own c.args.node keys i 0 c.loop-key-test.true inv.standing (plain w.in-Some.made) some here named) (inv.names p here named none);
-            indexed = λ lasts there bounded ix.
-                let shape = made-transient u0 u own c.args.node keys i 0 c.loop-key-test.true inv.standing (plain w.in-Some.made) some in
-                let o = w.in-Some.made.observer in
-                let kept = w.get_mut-kept.result.now in
-                let held_there = ap (λ qs. has_queue qs o) inv.queues ∙ shape.0 (has_queue (queues_by c.args.roster.now)) c.requires.there in
-                let ps = passing_by c.loop-key.roster in
-                let ps' = passing_by (slice_set c.loop-key.roster o (Some (record kept { passing = w.add.new.keys }))) in
-                subst (λ some. IsIndexed v lasts ps' some there) (sym w.in_ok-mark_pending.ensures.ok)
-                (indexed-transient u (plain w.in-Some.made) v w.place_past-place.result kept.passing.items w.add.new.keys.items w.in_ok-add.ensures.own lasts ps (with_last c.loop-key.fleeting.keys o) there
-                (indexed-pended u lasts ps c.loop-key.fleeting.keys there o (shape.0 there bounded) (inv.indexed lasts there bounded ix)) shape.1 ps'
-                (within-passing c.loop-key.roster o held_there) (sym (passing-there c.loop-key.roster o kept w.get_mut-kept.ensures.value)) (passing-set c.loop-key.roster o (record kept { passing = w.add.new.keys })) (last-there o c.loop-key.fleeting.keys)
-                (λ ordered.
-                let found_place = w.place_past-place.ensures.place (subst (ByOrigin u) (sym w.as_slice.ensures.value) ordered) in
-                subst (λ n. IsPast u n kept.passing.items w.place_past-place.result) w.origin-origin.ensures
-                (subst (λ ks. IsPast u w.origin-origin.result ks w.place_past-place.result) w.as_slice.ensures.value found_place)));
-            sources = λ have. sources-added u v lists (plain w.in-Some.made) lists' a (source-made u own c.args.node (slice_index_or keys i 0) (plain w.in-Some.made) some (inv.sources have)) (inv.sources have);
-            agree = λ have.
-                let before = inv.agree have in
-                agree-transient u v lists (plain w.in-Some.made) lists' a before (agree-made u own c.args.node (slice_index_or keys i 0) (plain w.in-Some.made) some before)
-                (alone-made u lists c.args.node (slice_index_or keys i 0) (plain w.in-Some.made) inv.sound.placed some);
-            lasting = lasting-same c.loop-key.roster w.in-Some.made.observer w.get_mut-kept.result.now w.get_mut-kept.ensures.value (record w.get_mut-kept.result.now { passing = w.add.new.keys }) refl ∙ inv.lasting;
-            queues = queues-same c.loop-key.roster w.in-Some.made.observer w.get_mut-kept.result.now w.get_mut-kept.ensures.value (record w.get_mut-kept.result.now { passing = w.add.new.keys }) refl ∙ inv.queues;
-            sound = w.state_law-in-Some.ensures;
-          })
-      | in_default w ↦
-          let none : transient_under u own c.args.node (slice_index_or keys i 0) ≡ None = ap (λ ks. transient_under u ks c.args.node (slice_index_or keys i 0)) (sym c.keys_on-in-loop-key.ensures) ∙ sym c.in_ok-made.ensures ∙ ap (option_map plain) w.in_default.is in
-          rw (w.registrations-is, w.roster-is, w.fleeting-is, w.origins-is) (record {
-            noted = inv.noted;
-            standing = inv.standing;
-            has = turn-none u0 u lists0 lists c.args.node keys i 0 c.loop-key-test.true live inv.standing inv.has none;
-            stands = inv.stands;
-            names = inv.names;
-            indexed = inv.indexed;
-            sources = inv.sources;
-            agree = inv.agree;
-            lasting = inv.lasting;
-            queues = inv.queues;
-            sound = inv.sound;
-          })
-    ]
-
--- what came in came in last on the node, as far as the loop went
-
-pub returns-in_err-origins-clause-front : goal.returns-in_err-origins-clause-front
-returns-in_err-origins-clause-front c =
-    let here = found c.args.registrations.now (on c.args.node c.args.registrations.now.lists) in
-    front-same here here refl
-
-pub returns-in_err-made-clause-front : goal.returns-in_err-made-clause-front
-returns-in_err-made-clause-front c =
-    let here = found c.args.registrations.now (on c.args.node c.args.registrations.now.lists) in
-    let ss = found c.args.registrations.now (take c.loop-key.key-index c.args.standing.now) in
-    front-added c.args.node ss here (found c.loop-key.registrations (on c.args.node c.loop-key.registrations.lists)) (c.loop-key.invariant.has c.args.node)
-
-pub returns-in_err-made-clause-elsewhere : goal.returns-in_err-made-clause-elsewhere
-returns-in_err-made-clause-elsewhere c = λ n ne.
-    let ss = found c.args.registrations.now (take c.loop-key.key-index c.args.standing.now) in
-    elsewhere-same c.args.node n ne ss (found c.args.registrations.now (on n c.args.registrations.now.lists)) (found c.loop-key.registrations (on n c.loop-key.registrations.lists)) (c.loop-key.invariant.has n)
-
-pub returns-in_err-note-clause-front : goal.returns-in_err-note-clause-front
-returns-in_err-note-clause-front c =
-    let here = found c.args.registrations.now (on c.args.node c.args.registrations.now.lists) in
-    let ss = found c.args.registrations.now (take c.loop-key.key-index c.args.standing.now) in
-    front-added c.args.node ss here (found c.loop-key.registrations (on c.args.node c.loop-key.registrations.lists)) (c.loop-key.invariant.has c.args.node)
-
-pub returns-in_err-note-clause-elsewhere : goal.returns-in_err-note-clause-elsewhere
-returns-in_err-note-clause-elsewhere c = λ n ne.
-    let ss = found c.args.registrations.now (take c.loop-key.key-index c.args.standing.now) in
-    elsewhere-same c.args.node n ne ss (found c.args.registrations.now (on n c.args.registrations.now.lists)) (found c.loop-key.registrations (on n c.loop-key.registrations.lists)) (c.loop-key.invariant.has n)
-
-pub returns-in_err-mark_pending-clause-front : goal.returns-in_err-mark_pending-clause-front
-returns-in_err-mark_pending-clause-front c =
-    let here = found c.args.registrations.now (on c.args.node c.args.registrations.now.lists) in
-    let ss = found c.args.registrations.now (take c.loop-key.key-index c.args.standing.now) in
-    front-added c.args.node ss here (found c.loop-key.registrations (on c.args.node c.loop-key.registrations.lists)) (c.loop-key.invariant.has c.args.node)
-
-pub returns-in_err-mark_pending-clause-elsewhere : goal.returns-in_err-mark_pending-clause-elsewhere
-returns-in_err-mark_pending-clause-elsewhere c = λ n ne.
-    let ss = found c.args.registrations.now (take c.loop-key.key-index c.args.standing.now) in
-    elsewhere-same c.args.node n ne ss (found c.args.registrations.now (on n c.args.registrations.now.lists)) (found c.loop-key.registrations (on n c.loop-key.registrations.lists)) (c.loop-key.invariant.has n)
-
-pub returns-in_err-add-clause-front : goal.returns-in_err-add-clause-front
-returns-in_err-add-clause-front c =
-    let here = found c.args.registrations.now (on c.args.node c.args.registrations.now.lists) in
-    let ss = found c.args.registrations.now (take c.loop-key.key-index c.args.standing.now) in
-    subst (λ r. IsFront here (found r (on c.args.node r.lists))) (sym c.in_err-add.ensures.err)
-    (front-added c.args.node ss here (found c.loop-key.registrations (on c.args.node c.loop-key.registrations.lists)) (c.loop-key.invariant.has c.args.node))
-
-pub returns-in_err-add-clause-elsewhere : goal.returns-in_err-add-clause-elsewhere
-returns-in_err-add-clause-elsewhere c = λ n ne.
-    let old = found c.args.registrations.now (on n c.args.registrations.now.lists) in
-    let ss = found c.args.registrations.now (take c.loop-key.key-index c.args.standing.now) in
-    subst (λ r. found r (on n r.lists) ≡ old) (sym c.in_err-add.ensures.err) (elsewhere-same c.args.node n ne ss old (found c.loop-key.registrations (on n c.loop-key.registrations.lists)) (c.loop-key.invariant.has n))
-
-pub returns-clause-front : goal.returns-clause-front
-returns-clause-front c =
-    let here = found c.args.registrations.now (on c.args.node c.args.registrations.now.lists) in
-    let ss = found c.args.registrations.now (take c.loop-key.key-index c.args.standing.now) in
-    front-added c.args.node ss here (found c.loop-key.registrations (on c.args.node c.loop-key.registrations.lists)) (c.loop-key.invariant.has c.args.node)
-
-pub returns-clause-elsewhere : goal.returns-clause-elsewhere
-returns-clause-elsewhere c = λ n ne.
-    let ss = found c.args.registrations.now (take c.loop-key.key-index c.args.standing.now) in
-    elsewhere-same c.args.node n ne ss (found c.args.registrations.now (on n c.args.registrations.now.lists)) (found c.loop-key.registrations (on n c.loop-key.registrations.lists)) (c.loop-key.invariant.has n)
+pub returns-in-Err-clause-queues : goal.returns-in-Err-clause-queues
+returns-in-Err-clause-queues c = c.end_added.ensures.queues ∙ c.add_each_transient.ensures.queues

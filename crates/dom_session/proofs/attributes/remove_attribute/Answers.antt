@@ -13,7 +13,7 @@ returns c =
           (λ w shown. answer-remove_attribute v b w shown c.args.element c.args.name.now (sym c.in_default.ensures))
           c.in_ok-remove_attribute.ensures.removed c.remove_attribute.ensures.whole;
       left = tt;
-      unobserved = λ none. tt;
+      unchanged = tt;
     }
 
 pub returns-in-Some-clause-step : goal.returns-in-Some-clause-step

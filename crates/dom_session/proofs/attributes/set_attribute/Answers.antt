@@ -15,7 +15,7 @@ returns c =
           (λ w shown. answer-set_attribute v b w shown c.args.element name c.args.value (sym c.in_default.ensures) valid)
           c.in_ok-set_attribute.ensures.set c.set_attribute.ensures.whole;
       left = tt;
-      unobserved = λ none. tt;
+      unchanged = tt;
     }
 
 pub returns-in-Some-clause-step : goal.returns-in-Some-clause-step

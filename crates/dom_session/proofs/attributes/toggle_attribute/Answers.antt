@@ -16,7 +16,7 @@ returns c =
           (λ w shown. answer-toggle_attribute v b w shown c.args.element name c.args.force c.in_ok-present.present (sym c.in_default.ensures) valid c.in_ok-present.ensures.answer)
           c.in_ok-present.ensures.toggled c.toggle_attribute.ensures.whole;
       left = tt;
-      unobserved = λ none. tt;
+      unchanged = tt;
     }
 
 pub returns-in-Some-clause-step : goal.returns-in-Some-clause-step

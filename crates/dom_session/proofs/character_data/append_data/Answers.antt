@@ -20,5 +20,5 @@ returns c =
           (λ reply h b. step-same old new b replace command reply (λ w shown. answer-append_data old b w shown n c.length-end.result c.args.text.now held c.length-end.ensures) (h b))
           c.replace_data.ensures.step;
       left = c.replace_data.ensures.left;
-      unobserved = c.replace_data.ensures.unobserved;
+      unchanged = c.replace_data.ensures.unchanged;
     }

@@ -19,5 +19,5 @@ returns c =
           (λ reply h b. step-same old new b replace command reply (λ w shown. refl) (h b))
           c.replace_data.ensures.step;
       left = c.replace_data.ensures.left;
-      unobserved = c.replace_data.ensures.unobserved;
+      unchanged = c.replace_data.ensures.unchanged;
     }

@@ -14,7 +14,7 @@ returns-in-Ok c =
           (λ w shown. answer-replace_data v b w shown c.args.node c.args.offset c.args.count c.args.text.now None (sym c.in_default.ensures) c.in-Ok.ensures.allowed)
           c.in-Ok.ensures.replaced c.replace_data.ensures.whole;
       left = tt;
-      unobserved = λ none. tt;
+      unchanged = tt;
     }
 
 pub returns-in-Err : goal.returns-in-Err
@@ -25,7 +25,7 @@ returns-in-Err c =
       step = steps-refused v c.replace_data.new.world (ReplaceData n c.args.offset c.args.count c.args.text.now) c.in-Err.refusal (check_offset (unwatched v) n c.args.offset) c.reply_to.result c.reply_to.ensures c.in-Err.ensures.refused
           (λ b e named w shown. answer-replace_data v b w shown n c.args.offset c.args.count c.args.text.now (Some e) (sym c.in_default.ensures) named);
       left = on_err c.reply_to.result (kept_numbers v c.replace_data.new.world c.replace_data.ensures.kept c.replace_data.ensures.whole);
-      unobserved = λ none. on_err c.reply_to.result (c.in-Err.ensures.unchanged none);
+      unchanged = on_err c.reply_to.result c.in-Err.ensures.unchanged;
     }
 
 pub returns-in-Some-clause-step : goal.returns-in-Some-clause-step

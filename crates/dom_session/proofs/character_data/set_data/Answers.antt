@@ -12,5 +12,5 @@ returns c =
           (λ w shown. answer-set_data v b w shown c.args.node c.args.text.now (sym c.in_default.ensures))
           c.in_ok-set_data.ensures.set c.set_data.ensures.whole;
       left = tt;
-      unobserved = λ none. tt;
+      unchanged = tt;
     }

@@ -20,7 +20,7 @@ returns-in-Ok c =
           (λ w shown. answer-adopt_node old b d n w shown hd hn kind c.in-Ok.ensures.allowed)
           c.in-Ok.ensures.adopted c.adopt.ensures.whole);
       left = tt;
-      unobserved = λ none. tt;
+      unchanged = tt;
     }
 
 pub returns-in-Err : goal.returns-in-Err
@@ -35,5 +35,5 @@ returns-in-Err c =
       step = steps-refused-briefly old c.adopt.new.self (AdoptNode d n) c.in-Err.refusal (check_adopt old.tree.forest n) c.brief_to.result c.brief_to.ensures c.in-Err.ensures.refused
           (λ b e named w shown. refused-adopt_node old b d n w shown hd hn kind e named);
       left = on_err c.brief_to.result (kept_nodes old c.adopt.new.self c.adopt.ensures.kept c.adopt.ensures.whole);
-      unobserved = λ none. on_err c.brief_to.result (c.in-Err.ensures.unchanged none);
+      unchanged = on_err c.brief_to.result c.in-Err.ensures.unchanged;
     }

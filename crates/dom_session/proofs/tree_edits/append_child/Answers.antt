@@ -1,8 +1,8 @@
-use Rattle.std.proofs.Common.{◌≡◌, IfOk, OnErr, None, refl, sym, subst}
+use Rattle.std.proofs.Common.{◌≡◌, ◌||◌, true, IfOk, OnErr, None, refl, sym, subst}
 use Rattle.dom_model.specs.Definitions.{AppendChild, Bounds, append}
-use Rattle.dom_edit.specs.{declared.world.World.World, Whole.IsShown, Whole.IsUnobserved}
+use Rattle.dom_edit.specs.{declared.world.World.World, Whole.IsShown}
 use Rattle.dom_commands.specs.{declared.brief.Brief.TheVariants.Number, declared.reply.Reply.TheVariants.Brief, Brief.reply_of}
-use Rattle.dom_session.specs.{OutOfMemory.KeepsWholeWorld, SessionViews.IsStep}
+use Rattle.dom_session.specs.{OutOfMemory.KeepsWholeWorld, GoingOn.is_unobserved, GoingOn.is_lone, SessionViews.IsStep}
 use Rattle.dom_session.proofs.{GuardedLemmas.step-follows, TreeEdits.answer-append_child}
 use Rattle.dom_session.proofs.tree_edits.append_child.Goals as goal
 
@@ -17,7 +17,7 @@ returns-then-append_leaf c =
           (λ w shown. answer-append_child old b p n w None shown (c.append_leaf.ensures.parent_held done) (c.append_leaf.ensures.node_held done) (c.append_leaf.ensures.allowed done))
           (c.append_leaf.ensures.appended done) c.append_leaf.ensures.whole);
       left = tt;
-      unobserved = λ none. tt;
+      same = λ may. tt;
     }
 
 pub append_any-requires : goal.append_any-requires
@@ -30,5 +30,5 @@ returns c =
     record {
       step = subst (λ (v : World). IfOk c.append_any.result (λ reply. (b : Bounds) → IsStep v new b (AppendChild c.args.parent c.args.node) (reply_of reply))) same c.append_any.ensures.step;
       left = subst (λ (v : World). OnErr c.append_any.result (KeepsWholeWorld v new)) same c.append_any.ensures.left;
-      unobserved = subst (λ (v : World). IsUnobserved v → OnErr c.append_any.result (new ≡ v)) same c.append_any.ensures.unobserved;
+      same = subst (λ (v : World). (is_unobserved v || is_lone v c.args.node) ≡ true → OnErr c.append_any.result (new ≡ v)) same c.append_any.ensures.same;
     }

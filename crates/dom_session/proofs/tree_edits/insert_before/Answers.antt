@@ -4,6 +4,7 @@ use Rattle.dom_model.specs.Definitions.{entry_in, InsertBefore, check_insert, pr
 use Rattle.dom_commands.specs.{declared.brief.Brief.TheVariants.Number, declared.reply.Reply.TheVariants.Brief}
 use Rattle.dom_session.specs.{Refusals.lacks_given}
 use Rattle.dom_session.proofs.{GuardedLemmas.step-follows, GuardedLemmas.steps-refused-briefly, TreeEdits.answer-insert_before, KeepsWholeWorldLemmas.kept_nodes}
+use Rattle.dom_session.proofs.GoingOn.{alone-or-unobserved}
 use Rattle.dom_session.proofs.tree_edits.insert_before.Goals as goal
 use Rattle.dom_data.proofs.ResultLemmas.{on_err}
 
@@ -22,7 +23,7 @@ returns-in-Ok c =
           (λ w shown. answer-insert_before old b p n child w None shown hp hn hc c.in-Ok.ensures.allowed)
           c.in-Ok.ensures.inserted c.insert_before.ensures.whole);
       left = tt;
-      unobserved = λ none. tt;
+      same = λ may. tt;
     }
 
 pub returns-in-Err : goal.returns-in-Err
@@ -39,5 +40,5 @@ returns-in-Err c =
       step = steps-refused-briefly old c.insert_before.new.self (InsertBefore p n child) c.in-Err.refusal (check_insert old.tree.forest p n child) c.brief_to.result c.brief_to.ensures c.in-Err.ensures.refused
           (λ b e named w shown. answer-insert_before old b p n child w (Some e) shown hp hn hc named);
       left = on_err c.brief_to.result (kept_nodes old c.insert_before.new.self c.insert_before.ensures.kept c.insert_before.ensures.whole);
-      unobserved = λ none. on_err c.brief_to.result (c.in-Err.ensures.unchanged none);
+      same = λ may. on_err c.brief_to.result (alone-or-unobserved old n may c.in-Err.ensures.unchanged c.in-Err.ensures.alone);
     }

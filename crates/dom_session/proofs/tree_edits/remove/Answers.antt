@@ -17,7 +17,7 @@ returns c =
           (λ w shown. answer-remove old b n w shown hn kind)
           c.in_ok-remove.ensures.removed c.remove.ensures.whole;
       left = tt;
-      unobserved = λ none. tt;
+      unchanged = tt;
     }
 
 pub returns-then-not-is_child_node : goal.returns-then-not-is_child_node

@@ -18,7 +18,7 @@ returns-in-Ok c =
           (λ w shown. answer-remove_child old b p child w shown hp hc c.in-Ok.ensures.allowed)
           c.in-Ok.ensures.removed c.remove_child.ensures.whole);
       left = tt;
-      unobserved = λ none. tt;
+      unchanged = tt;
     }
 
 pub returns-in-Err : goal.returns-in-Err
@@ -32,5 +32,5 @@ returns-in-Err c =
       step = steps-refused-briefly old c.remove_child.new.self (RemoveChild p child) c.in-Err.refusal (check_remove_child old.tree.forest p child) c.brief_to.result c.brief_to.ensures c.in-Err.ensures.refused
           (λ b e named w shown. refused-remove_child old b p child w shown hp hc e named);
       left = on_err c.brief_to.result (kept_nodes old c.remove_child.new.self c.remove_child.ensures.kept c.remove_child.ensures.whole);
-      unobserved = λ none. on_err c.brief_to.result (c.in-Err.ensures.unchanged none);
+      unchanged = on_err c.brief_to.result c.in-Err.ensures.unchanged;
     }

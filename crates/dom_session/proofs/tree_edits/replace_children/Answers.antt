@@ -6,6 +6,7 @@ use Rattle.dom_commands.specs.{declared.brief.Brief.TheVariants.Nothing, declare
 use Rattle.dom_session.specs.{Refusals.lacks_given}
 use Rattle.dom_edit.specs.Refusals.{check_only_child}
 use Rattle.dom_session.proofs.{GuardedLemmas.step-follows, GuardedLemmas.step-stays, GuardedLemmas.steps-refused-briefly, TreeEdits.kind_passes-label, TreeEdits.answer-replace_children, TreeEdits.refused-replace_children, TreeEdits.refused-parent, KeepsWholeWorldLemmas.kept_nodes}
+use Rattle.dom_session.proofs.GoingOn.{none-listed}
 use Rattle.dom_session.proofs.tree_edits.replace_children.Goals as goal
 use Rattle.dom_data.proofs.ResultLemmas.{on_err}
 
@@ -22,7 +23,7 @@ returns-then-not-may_be_parent c =
     record {
       step = λ b. step-stays b (ReplaceChildren p n) (Brief (Dom TypeError)) old (λ w shown. refused-parent old b p n w shown hp kind hn);
       left = tt;
-      unobserved = λ none. tt;
+      same = λ none. tt;
     }
 
 pub returns-in-Ok : goal.returns-in-Ok
@@ -40,7 +41,7 @@ returns-in-Ok c =
           (λ w shown. answer-replace_children old b p w shown hp kind n hn c.in-Ok.ensures.allowed)
           c.in-Ok.ensures.replaced c.replace_children.ensures.whole;
       left = tt;
-      unobserved = λ none. tt;
+      same = λ none. tt;
     }
 
 pub returns-in-Err : goal.returns-in-Err
@@ -57,5 +58,5 @@ returns-in-Err c =
       step = steps-refused-briefly old c.replace_children.new.self (ReplaceChildren p n) c.in-Err.refusal (check_only_child old.tree.forest p n) c.brief_to.result c.brief_to.ensures c.in-Err.ensures.refused
           (λ b e named w shown. refused-replace_children old b p w shown hp kind n e hn named);
       left = on_err c.brief_to.result (kept_nodes old c.replace_children.new.self c.replace_children.ensures.kept c.replace_children.ensures.whole);
-      unobserved = λ none. on_err c.brief_to.result (c.in-Err.ensures.unchanged none);
+      same = λ none. on_err c.brief_to.result (c.in-Err.ensures.unchanged (none-listed old.observers.nodes none));
     }

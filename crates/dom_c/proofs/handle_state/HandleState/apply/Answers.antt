@@ -1,9 +1,7 @@
-use Rattle.std.proofs.Common.{◌≡◌, ◌&&◌, true, false, ap, Ok, Err}
-use Rattle.std.proofs.lemmas.Bool.{and_parts}
+use Rattle.std.proofs.Common.{◌≡◌, true, false, ap, Ok, Err}
 use Rattle.dom_session.specs.declared.session.OutOfMemory.{OutOfMemory}
-use Rattle.dom_session.proofs.GoingOn.{none-listed, either-way}
-use Rattle.dom_session.specs.Sessions.{command_view, goes_on, is_all_or_nothing_unobserved}
-use Rattle.dom_c.specs.Answers.{is_unobserved}
+use Rattle.dom_session.proofs.GoingOn.{either-way}
+use Rattle.dom_session.specs.Sessions.{command_view, goes_on, is_unchanged_in}
 use Rattle.dom_c.proofs.Spared.{not_ended, had_ended, steps-after_end, steps-taken, steps-spared, steps-ended}
 use Rattle.dom_c.proofs.handle_state.HandleState.apply.Goals as goal
 
@@ -31,8 +29,6 @@ returns-in-Err-Ended c =
     let ended = c.in-Err-Ended.ensures.ended (ap (λ (e : OutOfMemory). Err e) c.in-Err-Ended.field-0-is) in
     rw (c.end.ensures.kept, c.end.ensures.status)
     (steps-ended (Ok (command_view c.args.command)) c.args.self.now c.apply.new.self c.apply.ensures.bounds
-    (λ going is_open. absurd (either-way (goes_on command) (is_unobserved old && is_all_or_nothing_unobserved command) going
+    (λ going is_open. absurd (either-way (goes_on command) (is_unchanged_in old.world command) going
     (λ goes. not_ended old c.apply.new.self (c.in-Err-Ended.ensures.all_or_nothing goes) is_open ended)
-    (λ both.
-    let parts = and_parts (is_unobserved old) (is_all_or_nothing_unobserved command) both in
-    had_ended old c.apply.new.self (c.in-Err-Ended.ensures.unobserved parts.1 (none-listed old.world.observers.nodes parts.0)) is_open ended))))
+    (λ unchanged. had_ended old c.apply.new.self (c.in-Err-Ended.ensures.edits unchanged) is_open ended))))

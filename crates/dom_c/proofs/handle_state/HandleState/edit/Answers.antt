@@ -1,10 +1,8 @@
-use Rattle.std.proofs.Common.{◌≡◌, ◌&&◌, true, false, ap, Ok, Err}
-use Rattle.std.proofs.lemmas.Bool.{and_parts}
+use Rattle.std.proofs.Common.{◌≡◌, true, false, ap, Ok, Err}
 use Rattle.dom_commands.specs.{Views.editing_view, Brief.reply_of}
 use Rattle.dom_session.specs.{declared.session.OutOfMemory.OutOfMemory}
-use Rattle.dom_session.proofs.GoingOn.{ending-editing, none-listed, either-way}
-use Rattle.dom_session.specs.Sessions.{goes_on, is_all_or_nothing_unobserved}
-use Rattle.dom_c.specs.Answers.{is_unobserved}
+use Rattle.dom_session.proofs.GoingOn.{ending-editing, either-way}
+use Rattle.dom_session.specs.Sessions.{goes_on, is_unchanged_in}
 use Rattle.dom_c.proofs.Spared.{had_ended, steps-after_end, steps-taken, steps-spared, steps-ended}
 use Rattle.dom_c.proofs.handle_state.HandleState.edit.Goals as goal
 
@@ -32,8 +30,6 @@ returns-in-Err-Ended c =
     let ended = c.in-Err-Ended.ensures.ended (ap (λ (e : OutOfMemory). Err e) c.in-Err-Ended.field-0-is) in
     rw (c.end.ensures.kept, c.end.ensures.status)
     (steps-ended (Ok command) c.args.self.now c.edit.new.self c.edit.ensures.bounds
-    (λ going is_open. absurd (either-way (goes_on command) (is_unobserved old && is_all_or_nothing_unobserved command) going
+    (λ going is_open. absurd (either-way (goes_on command) (is_unchanged_in old.world command) going
     (λ goes. cc (goes, ending-editing c.args.command))
-    (λ both.
-    let parts = and_parts (is_unobserved old) (is_all_or_nothing_unobserved command) both in
-    had_ended old c.edit.new.self (c.in-Err-Ended.ensures.unobserved (none-listed old.world.observers.nodes parts.0)) is_open ended))))
+    (λ unchanged. had_ended old c.edit.new.self (c.in-Err-Ended.ensures.edits unchanged) is_open ended))))

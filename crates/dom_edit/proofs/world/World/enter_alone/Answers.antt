@@ -3,7 +3,7 @@ use Rattle.std.proofs.lemmas.Result.{on_ok_weaker}
 use Rattle.dom_model.specs.Definitions.{HasNode, parent_of, remove}
 use Rattle.dom_model.proofs.Forests.Entries.{HasNode-occurs}
 use Rattle.dom_edit.specs.{declared.world.World.World, KeptNodes.KeepsNodes, OlderNodes.LeavesAll, Whole.IsWhole, Whole.Follows}
-use Rattle.dom_edit.proofs.{InsertLemmas.alone-entering, InsertLemmas.follows-freed_alone, InsertLemmas.open-freed, InsertLemmas.follows-insert, LeavesOlderLemmas.same-left, KeepsNodesLemmas.nodes-none, KeepsNodesLemmas.nodes-then}
+use Rattle.dom_edit.proofs.{InsertLemmas.alone-entering, InsertLemmas.follows-freed_alone, InsertLemmas.open-freed, InsertLemmas.follows-insert, LeavesOlderLemmas.same-left, KeepsNodesLemmas.nodes-then}
 use Rattle.dom_edit.proofs.world.World.enter_alone.Goals as goal
 
 pub reserve_child-requires : goal.reserve_child-requires

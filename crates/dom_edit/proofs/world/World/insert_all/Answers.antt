@@ -1,8 +1,8 @@
-use Rattle.std.proofs.Common.{sym, subst, tests, rules}
+use Rattle.std.proofs.Common.{sym, subst}
 use Rattle.dom_model.proofs.Forests.{Entries.HasNode-occurs, Climbing.hits-first}
 use Rattle.dom_model.specs.Definitions.{insert_all}
-use Rattle.dom_edit.specs.{declared.world.World.World, OlderNodes.LeavesAll, Whole.Follows}
-use Rattle.dom_edit.proofs.{InsertLemmas.follows-insert_all, LeavesOlderLemmas.quiet-above, LeavesOlderLemmas.same-left, KeepsNodesLemmas.placeable-there, KeepsNodesLemmas.ahead-held, UnobservedLemmas.follows-unheard, world.World.insert_all.Goals.then-suppressed-via-then-suppressed, world.World.insert_all.Goals.then-suppressed-via-else-suppressed+then-is_idle}
+use Rattle.dom_edit.specs.{OlderNodes.LeavesAll, Whole.Follows}
+use Rattle.dom_edit.proofs.{InsertLemmas.follows-insert_all, LeavesOlderLemmas.quiet-above, LeavesOlderLemmas.same-left, KeepsNodesLemmas.placeable-there, KeepsNodesLemmas.ahead-held, UnobservedLemmas.follows-unheard}
 use Rattle.dom_edit.proofs.world.World.insert_all.Goals as goal
 
 pub queue_tree_record-requires-clause-held : goal.queue_tree_record-requires-clause-held
@@ -40,7 +40,7 @@ returns-then-suppressed-clause-inserted c =
     let before = c.args.child in
     let ns = c.args.nodes.now in
     elim c.then-suppressed.branch [
-      | then-suppressed-via-then-suppressed w ↦ subst (λ b. Follows c.args.self.now c.place.new.self (insert_all b p before ns)) (sym w.if-suppressed.true) c.place.ensures.placed
-      | then-suppressed-via-else-suppressed+then-is_idle w ↦
+      | goal.then-suppressed-via-then-suppressed w ↦ subst (λ b. Follows c.args.self.now c.place.new.self (insert_all b p before ns)) (sym w.if-suppressed.true) c.place.ensures.placed
+      | goal.then-suppressed-via-else-suppressed+then-is_idle w ↦
           follows-unheard c.args.self.now c.place.new.self c.args.suppressed p before ns (λ x o. w.is_idle.ensures.idle x o w.if-is_idle.true) c.place.ensures.placed
     ]

@@ -1,5 +1,6 @@
 use Rattle.dom_edit.proofs.{RemoveLemmas.follows-idle, KeepsNodesLemmas.one-there, AreThereLemmas.whole-named, KeepsWatchersLemmas.observers-same}
 use Rattle.std.proofs.Common.{[], ◌∷◌, refl, ap}
+use Rattle.std.proofs.lemmas.Result.{on_err_weaker}
 use Rattle.dom_observe.specs.Watchers.{Watchers}
 use Rattle.dom_edit.proofs.world.World.make_transients.Goals as goal
 
@@ -24,3 +25,6 @@ returns-then-is_idle-clause-observers c = observers-same c.args.self.now.observe
 
 pub returns-clause-observers : goal.returns-clause-observers
 returns-clause-observers c = c.transients.ensures.made
+
+pub returns-clause-err : goal.returns-clause-err
+returns-clause-err c = on_err_weaker c.transients.result (λ err. ap (λ (o : Watchers). record c.args.self.now { observers = o }) err) c.transients.ensures.err

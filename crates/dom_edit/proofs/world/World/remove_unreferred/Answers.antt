@@ -1,7 +1,7 @@
 use Rattle.std.proofs.Common.{◌≡◌, ℕ, Some, [], ◌∷◌, ap, sym, ◌∙◌, subst, arith}
 use Rattle.dom_model.specs.Definitions.{parent_of, taken_out}
 use Rattle.dom_model.proofs.Forests.{Climbing.hits-first}
-use Rattle.dom_edit.specs.{declared.world.World.World, Insertion.IsUnreferred, KeptNodes.KeepsNodes, KeptNodes.present, OlderNodes.LeavesAll, Whole.Follows}
+use Rattle.dom_edit.specs.{declared.world.World.World, Insertion.IsUnreferred, KeptNodes.present, OlderNodes.LeavesAll, Whole.Follows}
 use Rattle.dom_edit.proofs.{RemoveLemmas.parent-held, RemoveLemmas.follows-cut_out, RemoveLemmas.whole-taken, RemoveLemmas.follows-suppressed, LeavesOlderLemmas.cut-left, LeavesOlderLemmas.quiet-above, LeavesOlderLemmas.same-left, IsUnreferredLemmas.ends-stay, KeepsNodesLemmas.nodes-then, KeepsNodesLemmas.nodes-observed, KeepsNodesLemmas.nodes-cut, KeepsWatchersLemmas.watchers-cut}
 use Rattle.dom_edit.proofs.world.World.remove_unreferred.Goals as goal
 

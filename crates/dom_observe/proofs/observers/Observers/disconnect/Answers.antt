@@ -43,6 +43,7 @@ invariant_of-self c =
       sources-ended u v (Of o) c.end_all.ensures.left c.self.invariant.2,
       agree-ended u v (Of o) c.end_all.ensures.left c.self.invariant.3,
       subst (λ q. IsAwaited q a.pending.keys a.untold.keys) (sym queues) (awaited-emptied qs a.pending.keys a.untold.keys c.self.invariant.4 o held_there),
+      c.self.invariant.5,
     )
 
 pub returns-clause-ended : goal.returns-clause-ended

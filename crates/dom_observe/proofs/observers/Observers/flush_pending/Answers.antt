@@ -1,6 +1,6 @@
 -- The queues stay, and who was taken and not told is still there.
-use Rattle.std.proofs.Common.{◌≡◌, ap, sym, ◌∙◌, subst}
-use Rattle.dom_observe.specs.{Watchers.Watchers, Invariant.AllThere, Invariant.registered_nodes, Invariant.has_queue, Invariant.HoldsInvariant, Invariant.IsAwaited, Roster.queues_by}
+use Rattle.std.proofs.Common.{◌≡◌, sym, ◌∙◌, subst}
+use Rattle.dom_observe.specs.{Invariant.AllThere, Invariant.registered_nodes, Invariant.has_queue, Invariant.HoldsInvariant, Invariant.IsAwaited, Roster.queues_by}
 use Rattle.dom_observe.proofs.ObserverKeysLemmas.{indexed-same}
 use Rattle.dom_observe.proofs.observers.Observers.flush_pending.Goals as goal
 
@@ -16,6 +16,7 @@ invariant_of-self c =
       c.self.invariant.2,
       c.self.invariant.3,
       subst (λ qs. IsAwaited qs a.pending.keys a.untold.keys) (sym queues) c.self.invariant.4,
+      c.self.invariant.5,
     )
 
 pub returns : goal.returns

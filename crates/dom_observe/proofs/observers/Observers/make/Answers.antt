@@ -17,6 +17,7 @@ invariant_of-self c =
       c.self.invariant.2,
       c.self.invariant.3,
       subst (λ qs. IsAwaited qs a.pending.keys a.untold.keys) (sym queues) (awaited-made (queues_by a.roster) a.pending.keys a.untold.keys c.self.invariant.4),
+      c.self.invariant.5,
     ))
     (λ same. (
       subst (λ r. HoldsInvariant a.registrations (queues_by r) a.pending.keys) (sym same) c.self.invariant.0,
@@ -24,6 +25,7 @@ invariant_of-self c =
       c.self.invariant.2,
       c.self.invariant.3,
       subst (λ r. IsAwaited (queues_by r) a.pending.keys a.untold.keys) (sym same) c.self.invariant.4,
+      c.self.invariant.5,
     ))
 
 pub returns-clause-ok : goal.returns-clause-ok

@@ -1,5 +1,5 @@
 -- Nothing stands under any key.
-use Rattle.std.proofs.Common.{◌≡◌, ℕ, zero, suc, false, [], None, Some, refl, sym, ◌∙◌, subst, tests, rules}
+use Rattle.std.proofs.Common.{◌≡◌, ℕ, zero, suc, false, [], None, Some, refl, sym, ◌∙◌, subst, tests, rules, arith}
 use Rattle.dom_model.specs.Worlds.World as model
 use Rattle.dom_observe.specs.{Invariant.has_queue, Registrations.Registered, Registrations.at, Registrations.AllStand, Registrations.Agree, Roster.queues_by}
 use Rattle.dom_observe.proofs.observers.Observers.new.Goals as goal
@@ -33,6 +33,7 @@ invariant_of-result c =
       search (tests, rules),
       subst (λ r. Agree (at r)) none agree-empty,
       search (tests, rules),
+      omega (arith, c.new-3.ensures.len),
     )
 
 pub returns : goal.returns

@@ -1,5 +1,5 @@
 -- Each pending observer is told its records; then nobody is pending, and none of those has records.
-use Rattle.std.proofs.Common.{◌≡◌, ℕ, true, if◌then◌else◌, [], length, map, filter, refl, ap, sym, ◌∙◌, subst, is_none}
+use Rattle.std.proofs.Common.{arith, ◌≡◌, ℕ, true, if◌then◌else◌, [], length, map, filter, refl, ap, sym, ◌∙◌, subst, is_none}
 use Rattle.dom_model.specs.Definitions.{among, Registration, has_records, told_in}
 use Rattle.dom_observe.specs.{Notification.waiting_in, Watchers.Watchers, Watchers.Watches, Watchers.on, Watchers.records_at, QueuedNodes.RecordsNameNone, Registrations.at, Registrations.passes_for, Registrations.Owned, Invariant.registered_nodes, Invariant.has_queue, Invariant.AllThere, Invariant.HaveNone, Invariant.HoldsInvariant, Roster.first_keys, Roster.second_keys, Roster.lasting_by, Roster.passing_by, Roster.queues_by, declared.registration.EndedRegistrations.TheVariants.Transient}
 use Rattle.dom_observe.proofs.{ResultLemmas.at_err, IsAwaitedLemmas.awaited-queues, IsAwaitedLemmas.awaited-notified, NamedNodesLemmas.names-only, NamedNodesLemmas.none-ended, NamedNodesLemmas.same-there, IsIndexedLemmas.indexed-notified, InvariantLemmas.on-registered_nodes, InvariantLemmas.stand-alike, InvariantLemmas.stand-ended, InvariantLemmas.found-ended, InvariantLemmas.kept_queues, ObserverKeysLemmas.indexed-same, ObserverKeysLemmas.indexed-by, RosterLemmas.has-same, RosterLemmas.length-same, RegistrationTableLemmas.all_imply, GatherLemmas.waiting-told, AgreeLemmas.agree-ended, HaveSourcesLemmas.sources-ended, WatchesLemmas.watches-notified}
@@ -32,6 +32,7 @@ invariant_of-self-2 c =
       sources-ended u v Transient c.end_transients.ensures.left c.self.invariant.2,
       agree-ended u v Transient c.end_transients.ensures.left c.self.invariant.3,
       awaited-notified qs a.pending.keys a.untold.keys c.self.invariant.4 qs' c.clear.new.self.keys same (λ p. ap (λ q. records_at q p) c.end_transients.ensures.queues ∙ c.in_ok-told.ensures.emptied p),
+      omega (arith, c.clear.ensures.len),
     )
 
 pub returns-clause-told : goal.returns-clause-told
@@ -121,6 +122,7 @@ invariant_of-self c =
       c.self.invariant.2,
       c.self.invariant.3,
       awaited-queues qs a.pending.keys a.untold.keys c.self.invariant.4 qs' (λ i there. has-same a.roster c.gather.new.roster c.gather.ensures.keys i ∙ there) c.gather.ensures.empty,
+      c.self.invariant.5,
     )
 
 pub returns-clause-own : goal.returns-clause-own

@@ -1,5 +1,5 @@
 -- The observer's queue is emptied, and its transient registrations go.
-use Rattle.std.proofs.Common.{◌≡◌, ℕ, true, if◌then◌else◌, List, [], Option, Some, length, filter, refl, ap, sym, ◌∙◌, subst, slice_index_or, slice_set, unwrap_or}
+use Rattle.std.proofs.Common.{arith, ◌≡◌, ℕ, true, if◌then◌else◌, List, [], Option, Some, length, filter, refl, ap, sym, ◌∙◌, subst, slice_index_or, slice_set, unwrap_or}
 use Rattle.dom_model.specs.Definitions.{among, Record, observer_told}
 use Rattle.dom_observe.specs.{declared.registration.EndedRegistrations.TheVariants.TransientOf, declared.roster.Observer.Observer, Watchers.Watchers, Watchers.Watches, Watchers.records_at, Watchers.on, Registrations.at, Registrations.is_live, Registrations.unless_ended, Registrations.spares, Invariant.registered_nodes, Invariant.has_queue, Invariant.HoldsInvariant, Invariant.IsAwaited, Roster.lasting_by, Roster.passing_by, Roster.queues_by, QueuedNodes.RecordsNameNone}
 use Rattle.dom_observe.proofs.{AgreeLemmas.agree-ended, IsAwaitedLemmas.awaited-told, IsAwaitedLemmas.told-left, NamedNodesLemmas.names-only, NamedNodesLemmas.none-ended, NamedNodesLemmas.tells-emptied, NamedNodesLemmas.same-there, IsIndexedLemmas.indexed-passing_ended, InvariantLemmas.on-registered_nodes, InvariantLemmas.kept-emptied, InvariantLemmas.kept-others, InvariantLemmas.found-ended, InvariantLemmas.stand-ended, ObserverKeysLemmas.indexed-by, QueueListLemmas.has-set, RosterLemmas.has-kept, RosterLemmas.within-passing, RosterLemmas.passing-there, RosterLemmas.lasting-same, RosterLemmas.passing-set, RosterLemmas.queues-set, RosterLemmas.queue-there, HaveSourcesLemmas.sources-ended, WatchesLemmas.watches-filtered, WatchesLemmas.watches-taken}
@@ -45,6 +45,7 @@ invariant_of-self c =
       agree-ended u v (TransientOf o) left c.self.invariant.3,
       subst (λ q. IsAwaited q a.pending.keys c.swap_remove.new.self.keys) (sym queues)
           (awaited-told qs a.pending.keys a.untold.keys c.self.invariant.4 o held_there c.swap_remove.new.self.keys c.swap_remove.ensures.updates.0),
+      omega (arith, c.self.invariant.5, c.swap_remove.ensures.room.0),
     )
 
 pub returns-clause-told : goal.returns-clause-told

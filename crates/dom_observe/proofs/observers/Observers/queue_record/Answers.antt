@@ -1,9 +1,10 @@
 -- Each observer that the mutation interests gets its record, and is pending.
 use Rattle.std.proofs.Common.{◌≡◌, ℕ, ◌==◌, true, List, [], ◌∷◌, ◌++◌, length, filter, refl, ap, sym, ◌∙◌, subst, arith, flat_map, filter_map}
 use Rattle.dom_model.specs.Definitions.{ancestors, Mutation, standing_on, registered_on, interests, observers_of, among, with_all_last}
-use Rattle.dom_observe.specs.{WithoutRepeats.once, Watchers.Watchers, Watchers.Watches, Watchers.records_at, Watchers.on, Registrations.at, Invariant.registered_nodes, Invariant.has_queue, Roster.queues_by, Interested.listeners, ObservedNodes.nodes_of_mutation}
-use Rattle.dom_observe.proofs.{IsAwaitedLemmas.awaited-queued, NamedNodesLemmas.names-only, NamedNodesLemmas.names-same, NamedNodesLemmas.same-there, InterestedLemmas.all_last-there, ObserverKeysLemmas.indexed-same, ReleaseLemmas.each-there, RosterLemmas.has-same, RosterLemmas.length-same, ResultLemmas.on_both, ResultLemmas.both_err, ResultLemmas.at_err, InvariantLemmas.on-registered_nodes, InvariantLemmas.none_in, QueueRecordLemmas.standing_on-none, QueueRecordLemmas.standing_stands, QueueRecordLemmas.kept-queued, QueueRecordLemmas.told-queued, QueueRecordLemmas.pended-queued, WatchesLemmas.watches-noted, WatchesLemmas.watches-unheard, NoneInterestedLemmas.not_nothing, NoneInterestedLemmas.none-stand, NoneInterestedLemmas.none-standing}
+use Rattle.dom_observe.specs.{WithoutRepeats.once, Watchers.Watchers, Watchers.Watches, Watchers.records_at, Watchers.on, Registrations.at, Invariant.registered_nodes, Invariant.has_queue, Invariant.IsAwaited, Roster.queues_by, Interested.listeners, Interested.flag_of, Interested.delivered, ObservedNodes.nodes_of_mutation, Undoing.heard_at, Undoing.IsQueued}
+use Rattle.dom_observe.proofs.{IsAwaitedLemmas.awaited-queued, NamedNodesLemmas.names-only, NamedNodesLemmas.names-same, NamedNodesLemmas.same-there, InterestedLemmas.all_last-there, ObserverKeysLemmas.indexed-same, ReleaseLemmas.each-there, RosterLemmas.has-same, RosterLemmas.length-same, ResultLemmas.on_both, ResultLemmas.both_err, ResultLemmas.at_err, InvariantLemmas.on-registered_nodes, InvariantLemmas.none_in, QueueRecordLemmas.standing_on-none, QueueRecordLemmas.standing_stands, QueueRecordLemmas.kept-queued, QueueRecordLemmas.told-queued, QueueRecordLemmas.pended-queued, WatchesLemmas.watches-noted, WatchesLemmas.watches-unheard, NoneInterestedLemmas.not_nothing, NoneInterestedLemmas.none-stand, NoneInterestedLemmas.none-standing, UndoingLemmas.heard-listeners, UndoingLemmas.heard-idle, UndoingLemmas.queued-none}
 use Rattle.std.proofs.lemmas.Bool.{true≢false}
+use Rattle.std.specs.Map.{keys_of}
 use Rattle.dom_model.proofs.PlainLists.Numbers.{same_or, same, apart}
 use Rattle.dom_observe.proofs.observers.Observers.queue_record.Goals as goal
 
@@ -40,7 +41,9 @@ invariant_of-self-2 g c =
       indexed-same (at a.registrations) a.fleeting.keys a.roster c.queue_for_interested.new.roster c.self.invariant.1 c.queue_for_interested.ensures.keys,
       c.self.invariant.2,
       c.self.invariant.3,
-      awaited-queued qs a.pending.keys a.untold.keys c.self.invariant.4 (queues_by c.queue_for_interested.new.roster) c.queue_for_interested.new.pending.keys (has-same a.roster c.queue_for_interested.new.roster c.queue_for_interested.ensures.keys) c.queue_for_interested.ensures.stay c.queue_for_interested.ensures.others,
+      subst (IsAwaited (queues_by c.queue_for_interested.new.roster) c.queue_for_interested.new.pending.keys) (sym c.queue_for_interested.ensures.untold)
+          (awaited-queued qs a.pending.keys a.untold.keys c.self.invariant.4 (queues_by c.queue_for_interested.new.roster) c.queue_for_interested.new.pending.keys (has-same a.roster c.queue_for_interested.new.roster c.queue_for_interested.ensures.keys) c.queue_for_interested.ensures.stay c.queue_for_interested.ensures.others),
+      c.queue_for_interested.ensures.room c.self.invariant.5,
     )
 
 pub returns-clause-queued : goal.returns-clause-queued
@@ -147,3 +150,47 @@ returns-clause-err g c =
     let same : record { nodes = registered_nodes a.registrations; queues = queues_by c.queue_for_interested.new.roster; pending = c.queue_for_interested.new.pending.keys }
     ≡ record { nodes = registered_nodes a.registrations; queues = queues_by a.roster; pending = a.pending.keys } = λ i. record { nodes = registered_nodes a.registrations; queues = queues i; pending = pending i } in
     same ∙ c.self.view_is)
+
+-- what is queued, in the observers' own words
+
+pub returns-then-is_empty-clause-own : goal.returns-then-is_empty-clause-own
+returns-then-is_empty-clause-own g c =
+    let a = c.self.inside in
+    let m = c.args.mutation.now in
+    let ns = ancestors m.target c.args.tree.now.forest in
+    let none = heard-idle a.registrations (queues_by a.roster) a.pending.keys m ns (sym c.is_empty.ensures ∙ c.if-is_empty.true) in
+    queued-none ns m c.args.self.now (subst (λ (o : Watchers). heard_at ns m o ≡ []) c.self.view_is none)
+
+pub returns-then-is_empty-2-clause-own : goal.returns-then-is_empty-2-clause-own
+returns-then-is_empty-2-clause-own g c =
+    let a = c.self.inside in
+    let m = c.args.mutation.now in
+    let ns = ancestors m.target c.args.tree.now.forest in
+    let target = ap (λ (k : Mutation). k.target) c.mutation.view_is in
+    let full = c.find_standing.new.keys.ok.0 in
+    let t : (c.find_standing.new.keys.len == 0) ≡ true = sym c.is_empty-2.ensures ∙ c.if-is_empty-2.true in
+    let nothing : c.find_standing.new.keys.items ≡ [] =
+    none c.find_standing.new.keys.items (elim (same_or c.find_standing.new.keys.len 0) [ same e _ ↦ omega (arith, full, e) | apart _ f ↦ absurd (true≢false (sym t ∙ f)) ]) in
+    let keys = ap (λ k. flat_map (λ n. on n a.registrations.lists) (ancestors k c.args.tree.now.forest)) (sym target) ∙ sym c.in_ok-find_standing.ensures ∙ nothing in
+    let nobody = heard-listeners a.registrations (queues_by a.roster) a.pending.keys m ns ∙ ap (listeners (at a.registrations) m.type m.target m.name) keys in
+    subst (λ (o : Watchers). IsQueued ns m o (record { nodes = registered_nodes a.registrations; queues = queues_by a.roster; pending = a.pending.keys })) c.self.view_is
+    (queued-none ns m (record { nodes = registered_nodes a.registrations; queues = queues_by a.roster; pending = a.pending.keys }) nobody)
+
+pub returns-clause-own : goal.returns-clause-own
+returns-clause-own g c =
+    on_both c.queue_for_interested.result c.queue_for_interested.ensures.told c.queue_for_interested.ensures.pending (λ told pends.
+    let a = c.self.inside in
+    let b = c.queue_for_interested.new in
+    let m = c.args.mutation.now in
+    let ns = ancestors m.target c.args.tree.now.forest in
+    let target = ap (λ (k : Mutation). k.target) c.mutation.view_is in
+    let is : c.as_slice.result.now ≡ flat_map (λ n. on n a.registrations.lists) ns = c.as_slice.ensures.value ∙ c.in_ok-find_standing.ensures ∙ ap (λ t. flat_map (λ n. on n a.registrations.lists) (ancestors t c.args.tree.now.forest)) target in
+    let heard = ap (listeners (at a.registrations) m.type m.target m.name) is ∙ sym (heard-listeners a.registrations (queues_by a.roster) a.pending.keys m ns) in
+    let new : Watchers = record { nodes = registered_nodes a.registrations; queues = queues_by b.roster; pending = b.pending.keys } in
+    subst (λ (o : Watchers). IsQueued ns m o new) c.self.view_is (record {
+      nodes = refl;
+      made = length-same a.roster b.roster c.queue_for_interested.ensures.keys;
+      there = has-same a.roster b.roster c.queue_for_interested.ensures.keys;
+      records = λ p. told p ∙ ap (λ ls. records_at (queues_by a.roster) p ++ delivered m (flag_of p ls)) heard;
+      pending = pends ∙ ap (λ ls. with_all_last a.pending.keys (keys_of ls)) heard;
+    }))

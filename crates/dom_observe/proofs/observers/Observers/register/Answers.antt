@@ -64,6 +64,7 @@ invariant_of-self c =
       sources-changed v w c.in-Some.key c.args.options.value c.set_options.ensures.changed c.set_options.ensures.others (sources-ended u v (From o c.args.node) left c.self.invariant.2),
       agree-again u v w lists o c.args.node c.in-Some.key c.args.options.value left found_key c.set_options.ensures.changed c.set_options.ensures.others c.self.invariant.3,
       subst (λ qs. IsAwaited qs a.pending.keys a.untold.keys) (sym same) c.self.invariant.4,
+      c.self.invariant.5,
     )
 
 pub returns-in-Some-clause-ok : goal.returns-in-Some-clause-ok
@@ -133,6 +134,7 @@ invariant_of-self-in-None c =
           (nothing-comes u o c.args.node lists c.self.invariant.0.are.placed c.self.invariant.2 no_key))
           (λ same_one. subst (λ r. Agree (at r)) (sym same_one) c.self.invariant.3),
       subst (λ qs. IsAwaited qs a.pending.keys a.untold.keys) (sym same) c.self.invariant.4,
+      c.self.invariant.5,
     )
 
 pub returns-in-None-clause-ok : goal.returns-in-None-clause-ok

@@ -53,6 +53,7 @@ invariant_of-self c =
       subst (λ ps. IsAwaited (queues_by new) ps c.swap_remove-2.new.self.keys) (sym pending)
           (subst (λ q. IsAwaited q (left_out o a.pending.keys) c.swap_remove-2.new.self.keys) (sym queues)
           (awaited-released qs a.pending.keys a.untold.keys c.self.invariant.4 o c.swap_remove-2.new.self.keys c.swap_remove-2.ensures.updates.0)),
+      omega (arith, c.self.invariant.5, c.swap_remove-2.ensures.room.0, c.shift_remove.ensures.len),
     )
 
 pub returns-clause-released : goal.returns-clause-released

@@ -19,6 +19,7 @@ invariant_of-self c =
       c.self.invariant.3,
       subst (λ (qs : List (Option (List Record))). IsAwaited qs a.pending.keys a.untold.keys) (sym c.take_from.ensures.emptied)
           (awaited-emptied (queues_by a.roster) a.pending.keys a.untold.keys c.self.invariant.4 c.args.observer held_there),
+      c.self.invariant.5,
     )
 
 pub returns-clause-records : goal.returns-clause-records

@@ -1,5 +1,5 @@
 -- The pending observers are among those that were not told, and nobody is pending; or nothing has changed.
-use Rattle.std.proofs.Common.{[], sym, ◌∙◌, subst}
+use Rattle.std.proofs.Common.{[], length, arith, ap, sym, ◌∙◌, subst}
 use Rattle.dom_observe.specs.{Invariant.has_queue, Invariant.AllThere, Invariant.HoldsInvariant, Roster.queues_by}
 use Rattle.dom_observe.proofs.{IsAwaitedLemmas.awaited-taken, IsAwaitedLemmas.insert_all-last, NamedNodesLemmas.names-only, NamedNodesLemmas.names-same}
 use Rattle.dom_observe.proofs.observers.Observers.take_pending.Goals as goal
@@ -19,6 +19,7 @@ invariant_of-self-2 c =
       c.self.invariant.2,
       c.self.invariant.3,
       awaited-taken qs a.pending.keys a.untold.keys c.self.invariant.4 c.append.new.other.keys c.append.new.self.keys kept.there (c.in_ok-append.ensures.keys ∙ insert_all-last a.untold.keys a.pending.keys),
+      omega (arith, ap length c.in_ok-append.ensures.emptied),
     )
 
 pub returns-clause-names : goal.returns-clause-names

@@ -5,7 +5,7 @@ use Rattle.std.proofs.lemmas.Bool.{true≢false, or_parts}
 use Rattle.dom_model.proofs.PlainLists.Numbers.{same_or, same, apart}
 use Rattle.dom_model.specs.Definitions.{ancestors, registered_on, with_transients}
 use Rattle.dom_observe.specs.{WithoutRepeats.once, Watchers.Watchers, Watchers.Watches, Watchers.on, Registrations.at, Registrations.found, Registrations.is_live, Registrations.AllLive, Registrations.HasRegistration, Invariant.registered_nodes, Invariant.has_queue, Invariant.HoldsInvariant, Invariant.IsAwaited, Roster.lasting_by, Roster.passing_by, Roster.queues_by, QueuedNodes.names_one, QueuedNodes.RecordsNameNone}
-use Rattle.dom_observe.proofs.{NamedNodesLemmas.names-only, NamedNodesLemmas.same-queues, ObserverKeysLemmas.indexed-by, ResultLemmas.on_ok, ResultLemmas.at_err, IsFrontLemmas.left-same, IsFrontLemmas.partly-left, RegistrationTableLemmas.live_of_stands, InvariantLemmas.on-registered_nodes, InvariantLemmas.kept-others, InvariantLemmas.all_deep, InvariantLemmas.stands_of, TransientLemmas.transients-once, TransientLemmas.none-added-there, WatchesLemmas.watches-transients, NoneInterestedLemmas.not_nothing, NoneInterestedLemmas.none-deep}
+use Rattle.dom_observe.proofs.{NamedNodesLemmas.names-only, NamedNodesLemmas.same-queues, ObserverKeysLemmas.indexed-by, ResultLemmas.on_ok, ResultLemmas.on_err, ResultLemmas.at_err, RegistrationTableLemmas.live_of_stands, InvariantLemmas.on-registered_nodes, InvariantLemmas.kept-others, InvariantLemmas.all_deep, InvariantLemmas.stands_of, TransientLemmas.transients-once, TransientLemmas.none-added-there, WatchesLemmas.watches-transients, GetsTransientsLemmas.same-watchers, NoneInterestedLemmas.not_nothing, NoneInterestedLemmas.none-deep}
 use Rattle.dom_observe.proofs.observers.Observers.transients.Goals as goal
 
 none : {A : Type 0} (xs : List A) → length xs ≡ 0 → xs ≡ []
@@ -54,6 +54,7 @@ invariant_of-self-2 g c =
       c.add_transients.ensures.sources c.self.invariant.2,
       c.add_transients.ensures.agree c.self.invariant.3,
       subst (λ q. IsAwaited q a.pending.keys a.untold.keys) (sym queues) c.self.invariant.4,
+      c.self.invariant.5,
     )
 
 pub returns-clause-left : goal.returns-clause-left
@@ -126,14 +127,15 @@ returns-then-is_empty-clause-quiet g c unnamed = c.self.view_is
 pub returns-in_err-find_standing_deep-clause-quiet : goal.returns-in_err-find_standing_deep-clause-quiet
 returns-in_err-find_standing_deep-clause-quiet g c unnamed = c.self.view_is
 
-pub returns-in_err-find_standing_deep-clause-partly : goal.returns-in_err-find_standing_deep-clause-partly
-returns-in_err-find_standing_deep-clause-partly g c = at_err c.from_residual.result (left-same c.args.self.now _ c.self.view_is c.args.node)
+pub add_transients-requires-clause-stand : goal.add_transients-requires-clause-stand
+add_transients-requires-clause-stand g c = c.self.invariant.0.stand
 
-pub returns-clause-partly : goal.returns-clause-partly
-returns-clause-partly g c =
+pub returns-in_err-find_standing_deep-clause-err : goal.returns-in_err-find_standing_deep-clause-err
+returns-in_err-find_standing_deep-clause-err g c = at_err c.from_residual.result c.self.view_is
+
+pub returns-clause-err : goal.returns-clause-err
+returns-clause-err g c =
+    on_err c.add_transients.result c.add_transients.ensures.err (λ nodes.
     let a = c.self.inside in
     let b = c.add_transients.new in
-    let left =
-    partly-left a.registrations (queues_by a.roster) a.pending.keys c.args.self.now c.self.view_is b.registrations c.args.node
-    c.add_transients.ensures.front c.add_transients.ensures.elsewhere (queues_by b.roster) c.add_transients.ensures.queues in
-    at_err c.add_transients.result left
+    same-watchers (registered_nodes a.registrations) (registered_nodes b.registrations) (queues_by a.roster) (queues_by b.roster) a.pending.keys a.pending.keys nodes c.add_transients.ensures.queues refl ∙ c.self.view_is)

@@ -59,3 +59,6 @@ returns-clause-own c =
     let made : Registration = record c.args.registration { turn = c.in_ok-registration.field-0 } in
     let updates : Updates mid new key (Some made) = subst (λ k. Updates mid new k (Some made)) (c.insert_reserved.ensures.key ∙ sym c.vacant_key-key.ensures.value) c.insert_reserved.ensures.updates in
     rw (← c.self.view_is) (put-among a.table mid new (ap (λ t. t.slots) c.reserve.ensures.rest_kept) made key c.vacant_key-key.ensures.vacant updates c.args.place c.args.keys.now.items c.insert.new.self.items c.in_ok-insert.ensures.items)
+
+pub returns-clause-nodes : goal.returns-clause-nodes
+returns-clause-nodes c = rw (← c.self.view_is) c.in_default.ensures.nodes

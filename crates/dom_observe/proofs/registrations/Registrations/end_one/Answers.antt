@@ -1,7 +1,7 @@
 -- It goes with its key, and the node with the last.
 use Rattle.std.proofs.Common.{◌≡◌, ℕ, filter, ap, ◌∙◌}
 use Rattle.dom_observe.specs.{Watchers.on, Registrations.at, Registrations.in_table, Registrations.listed, Registrations.is_live, Registrations.is_on_node}
-use Rattle.dom_observe.proofs.{EndByNodeLemmas.one-swept, AreRegisteredLemmas.unique-in, AreRegisteredLemmas.are-live, AreRegisteredLemmas.registered-swept, registrations.Registrations.end_one.Goals.After-leave_out}
+use Rattle.dom_observe.proofs.{EndByNodeLemmas.one-swept, AreRegisteredLemmas.unique-in, AreRegisteredLemmas.are-live, AreRegisteredLemmas.registered-swept, NodeOrderLemmas.goes-after, registrations.Registrations.end_one.Goals.After-leave_out}
 use Rattle.dom_observe.proofs.registrations.Registrations.end_one.Goals as goal
 
 pub end_key_on-is_bare-requires-clause-unique : goal.end_key_on-is_bare-requires-clause-unique
@@ -34,3 +34,8 @@ returns-clause-left c = rw (← c.self.view_is) c.end_key_on-is_bare.ensures.lef
 
 pub returns-clause-swept : goal.returns-clause-swept
 returns-clause-swept c = rw (← c.self.view_is) (swept_in (goal.at.returns-clause-swept c).After-leave_out)
+
+pub returns-clause-nodes : goal.returns-clause-nodes
+returns-clause-nodes c =
+    let a = c.self.inside in
+    rw (← c.self.view_is) (goes-after c.args.node (listed a.nodes.entries) (listed c.end_key_on-is_bare.new.nodes.entries) (listed c.leave_out.new.nodes.entries) c.end_key_on-is_bare.ensures.nodes c.leave_out.ensures.nodes)

@@ -45,8 +45,8 @@ returns-then-self-clause-left c =
 pub returns-in-Ok-clause-left : goal.returns-in-Ok-clause-left
 returns-in-Ok-clause-left c = tt
 
-pub returns-else-is_unobserved-clause-left : goal.returns-else-is_unobserved-clause-left
-returns-else-is_unobserved-clause-left c =
+pub returns-else-is_unchanged-clause-left : goal.returns-else-is_unchanged-clause-left
+returns-else-is_unchanged-clause-left c =
     let on : c.self.inside.ended ≡ false = cc in
     rw (← c.self.view_is)
     (left_open (record { world = c.self.inside.world; bounds = bounds_of c.self.inside.limits; ended = c.self.inside.ended })
@@ -92,11 +92,11 @@ pub returns-then-stays_open-clause-all_or_nothing : goal.returns-then-stays_open
 returns-then-stays_open-clause-all_or_nothing c =
     rw (← c.self.view_is) (λ going. as_before-world c.self.inside.world c.answered.new.world (bounds_of c.self.inside.limits) c.self.inside.ended (subst (λ (v : World). IsAsItWas v c.answered.new.world) c.make_room.ensures (c.in-Err.ensures.goes_on going)))
 
-pub returns-else-is_unobserved-clause-asked : goal.returns-else-is_unobserved-clause-asked
-returns-else-is_unobserved-clause-asked c asked = absurd (cc (going-asked (command_view c.args.command) asked))
+pub returns-else-is_unchanged-clause-asked : goal.returns-else-is_unchanged-clause-asked
+returns-else-is_unchanged-clause-asked c asked = absurd (cc (going-asked (command_view c.args.command) asked))
 
-pub returns-else-is_unobserved-clause-all_or_nothing : goal.returns-else-is_unobserved-clause-all_or_nothing
-returns-else-is_unobserved-clause-all_or_nothing c going = absurd (cc going)
+pub returns-else-is_unchanged-clause-all_or_nothing : goal.returns-else-is_unchanged-clause-all_or_nothing
+returns-else-is_unchanged-clause-all_or_nothing c going = absurd (cc going)
 
 pub returns-then-self-clause-all_or_nothing : goal.returns-then-self-clause-all_or_nothing
 returns-then-self-clause-all_or_nothing c _ = as_before c.args.self.now
