@@ -147,7 +147,7 @@ static uint8_t call(int number)
     switch (number) {
     case 0: return hp_clone_node(&session, 2, true, &made);
     case 1: return hp_clone_contents(&session, 0, &made);
-    case 2: return hp_insert_before(&session, 2, 6, 4);
+    case 2: return hp_replace_child(&session, 2, 8, 4);
     case 3: return hp_split_text(&session, 3, 2, &made);
     case 4: return hp_extract_contents(&session, 0, &made);
     case 5: return hp_replace_children(&session, 2, 8);

@@ -1,8 +1,8 @@
 /* Sessions that go on after an allocation was refused. Each allocation of each question, of each call that makes an object and of a notification is
  * refused in turn, over a document of some hundred nodes. The call then says that it was refused memory, and its out pointers are as they were. After
  * that the session answers two hundred further lines as one that was never asked. The same holds of a paste into an observed text, if its data cannot
- * grow, and of each edit in a session that nobody observes. It also holds of observed edits of data and attributes, removals, and insertions of one node
- * that has no parent. Linked with --wrap for malloc, realloc and free. */
+ * grow, and of each edit in a session that nobody observes. It also holds of observed edits of data and attributes, removals, and insertions and moves of
+ * one node. Linked with --wrap for malloc, realloc and free. */
 #include "refusing.h"
 #include "wanting.h"
 #include <string.h>
@@ -134,8 +134,8 @@ static uint8_t make(int number, uint32_t *made)
     }
 }
 
-/* The edits. Each of the first SINGLE makes at most one record. */
-enum { EDITS = 18, SINGLE = 12 };
+/* The edits. Each of the first SINGLE inserts, moves or removes one node, or changes no tree. */
+enum { EDITS = 18, SINGLE = 14 };
 
 static uint8_t edit_tree(int number)
 {

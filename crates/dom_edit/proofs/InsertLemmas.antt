@@ -98,15 +98,19 @@ follows-freed_children a b c n ns e f r =
     (follows-then a b c (remove_all ns) (tree_record n [] ns None None) f r)
 
 -- once the nodes have left where they stood they may be put
-pub open-freed : (a b : World) (n parent : ℕ) (child : Option ℕ) (ns : List ℕ) → IsWhole a → IsInsertable a.tree.forest n parent child → ns ≡ entering a.tree.forest n → Follows a b (freed n ns) → IsOpen b.tree.forest parent child ns
-open-freed a b n parent child ns h k e f =
+pub open-forest : (a : World) (n parent : ℕ) (child : Option ℕ) (ns : List ℕ) → IsWhole a → IsInsertable a.tree.forest n parent child → ns ≡ entering a.tree.forest n
+    → (g : Forest Content) → g ≡ (freed n ns (unwatched a)).forest → IsOpen g parent child ns
+open-forest a n parent child ns h k e g is =
     let r = freed_ready n parent child (unwatched a) (sound-unwatched a h) k in
     let r2 = subst (λ (ms : List ℕ). IsReady (freed n ms (unwatched a)) parent child ms) (sym e) r in
-    subst (λ (g : Forest Content). IsOpen g parent child ns) (sym (forest-after a b (freed n ns) f)) (record {
+    subst (λ (f : Forest Content). IsOpen f parent child ns) (sym is) (record {
       parent_there = r2.parent_there;
       before_child = r2.before_child;
       placeable = r2.placeable;
     })
+
+pub open-freed : (a b : World) (n parent : ℕ) (child : Option ℕ) (ns : List ℕ) → IsWhole a → IsInsertable a.tree.forest n parent child → ns ≡ entering a.tree.forest n → Follows a b (freed n ns) → IsOpen b.tree.forest parent child ns
+open-freed a b n parent child ns h k e f = open-forest a n parent child ns h k e b.tree.forest (forest-after a b (freed n ns) f)
 
 -- The nodes come in.
 
@@ -139,7 +143,7 @@ with-record above parent child ns previous w = record w {
   }) w.observing;
 }
 
-record-first : (a : World) (parent : ℕ) (child : Option ℕ) (ns : List ℕ) (previous : Option ℕ) (w : model.World) → IsWhole a → IsOpen a.tree.forest parent child ns → Keeps a w
+pub record-first : (a : World) (parent : ℕ) (child : Option ℕ) (ns : List ℕ) (previous : Option ℕ) (w : model.World) → IsWhole a → IsOpen a.tree.forest parent child ns → Keeps a w
     → tree_record parent ns [] previous child (placing parent child ns w) ≡ placing parent child ns (tree_record parent ns [] previous child w)
 record-first a parent child ns previous w h ready k =
     let above = subst (λ (f : Forest Content). ancestors parent (all_placed parent child ns f) ≡ ancestors parent f) (sym k.forest) (above-all a.tree h.forest parent child ns ready) in

@@ -16,6 +16,8 @@ pub mod KeepsWatchersLemmas
 pub mod KeepsLabelsLemmas
 pub mod LeavesOlderLemmas
 pub mod InsertLemmas
+pub mod MoveNotedLemmas
+pub mod OtherThanLemmas
 pub mod ReplaceLemmas
 pub mod KeepsNodesLemmas
 pub mod IsUnreferredLemmas

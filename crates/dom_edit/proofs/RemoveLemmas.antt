@@ -92,13 +92,16 @@ not-above v n p h e =
 pub parent-apart : (v : World) (n p : ℕ) → IsWhole v → parent_of v.tree.forest n ≡ Some p → among n (ancestors p v.tree.forest) ≡ false
 parent-apart v n p h e = hits-not_among n (ancestors p v.tree.forest) (not-above v n p h e)
 
--- so the nodes above a parent stay above it if its child is removed
-pub above-cut : (v : World) (n p : ℕ) → IsWhole v → parent_of v.tree.forest n ≡ Some p → ancestors p (cut n v.tree.forest) ≡ ancestors p v.tree.forest
-above-cut v n p h e =
+-- so the nodes above a node that is not inside it stay above that one if it is removed
+pub above-other : (v : World) (n p m : ℕ) → IsWhole v → parent_of v.tree.forest n ≡ Some p → 0 < occurs m v.tree.forest → hits n (ancestors m v.tree.forest) ≡ 0 → ancestors m (cut n v.tree.forest) ≡ ancestors m v.tree.forest
+above-other v n p m h e m_there outside =
     let g = v.tree.forest in
     let o = h.forest.once in
-    let there = parent-there g n p e in
-    ancestors-cut g o n p (parent-path g o n p there e).0 ∙ up_with-clear g o p n there e (ancestors p g) (not-above v n p h e)
+    ancestors-cut g o n m m_there ∙ up_with-clear g o p n (parent-there g n p e) e (ancestors m g) outside
+
+-- so do those above its parent
+pub above-cut : (v : World) (n p : ℕ) → IsWhole v → parent_of v.tree.forest n ≡ Some p → ancestors p (cut n v.tree.forest) ≡ ancestors p v.tree.forest
+above-cut v n p h e = above-other v n p p h e (parent-path v.tree.forest h.forest.once n p (parent-there v.tree.forest n p e) e).0 (not-above v n p h e)
 
 -- Transient registrations.
 
@@ -165,11 +168,15 @@ follows-suppressed a b d n p h e made taken =
     (follows-then a b d (transients_made n p) (taken_out n p) made taken)
 
 -- the same, with a record
+pub removal-first : (a : World) (n p : ℕ) (w : model.World) → IsWhole a → parent_of a.tree.forest n ≡ Some p → Keeps a w
+    → remove false n w ≡ taken_out n p (removal_noted n p (previous_of a.tree.forest n) (next_of a.tree.forest n) w)
+removal-first a n p w h e k = sym (after-removal a n p false w e k) ∙ ap (λ above. with-record above n p (previous_of a.tree.forest n) (next_of a.tree.forest n) w) (above-kept a n p w h e k)
+
 pub follows-noted : (a b d : World) (n p : ℕ) → IsWhole a → parent_of a.tree.forest n ≡ Some p → Follows a b (removal_noted n p (previous_of a.tree.forest n) (next_of a.tree.forest n))
     → Follows b d (taken_out n p) → Follows a d (remove false n)
 follows-noted a b d n p h e noted taken =
     follows-as a d (λ w. taken_out n p (removal_noted n p (previous_of a.tree.forest n) (next_of a.tree.forest n) w)) (remove false n)
-    (λ w k. sym (after-removal a n p false w e k) ∙ ap (λ above. with-record above n p (previous_of a.tree.forest n) (next_of a.tree.forest n) w) (above-kept a n p w h e k))
+    (λ w k. removal-first a n p w h e k)
     (follows-then a b d (removal_noted n p (previous_of a.tree.forest n) (next_of a.tree.forest n)) (taken_out n p) noted taken)
 
 -- a node that is held is so after it left its parent

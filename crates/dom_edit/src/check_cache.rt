@@ -4,9 +4,9 @@ ghost use Rattle.std.specs.Prelude.{◌≡◌, Some};
 ghost use Rattle.std.specs.Option.{ForSome};
 ghost use Rattle.dom_model.specs.Forests.Forest.{HasNode, parent_of};
 
-use dom_payload::Content;
 use crate::world::World;
 use dom_kinds::Kind;
+use dom_payload::Content;
 use dom_tree::{NodeId, Tree};
 
 // Lists with no more children need no index: a walk over them is short.

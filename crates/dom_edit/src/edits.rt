@@ -7,7 +7,7 @@ ghost use Rattle.std.specs.Option.{ForSome};
 ghost use Rattle.std.specs.Result.{IfErr};
 ghost use Rattle.dom_model.specs.declared.Kind.TheVariants.{Document, DocumentFragment};
 ghost use Rattle.dom_model.specs.Forests.Kinds.{may_be_parent};
-ghost use Rattle.dom_model.specs.Forests.Forest.{HasNode, parent_of};
+ghost use Rattle.dom_model.specs.Forests.Forest.{HasNode};
 ghost use Rattle.dom_model.specs.MutationAlgorithms.Checks.{check_insert, check_replace};
 ghost use Rattle.dom_model.specs.Forests.Nodes.{is_of_kind, kind_passes};
 ghost use Rattle.dom_model.specs.MutationAlgorithms.Editing.{remove, insert, pre_insert, append, replace, replace_all, adopt};
@@ -53,7 +53,7 @@ impl World {
             (check_insert self.old.tree.forest parent node child) self.old self.new) }
         ensures unchanged { IsUnobserved self.old → OnErr result (self.new ≡ self.old) }
         ensures alone { is_of_kind DocumentFragment self.old.tree.forest node ≡ false →
-            parent_of self.old.tree.forest node ≡ None → OnErr result (self.new ≡ self.old) }
+            OnErr result (self.new ≡ self.old) }
         ensures kept { KeepsNodes self.old self.new }
         ensures whole { IsWhole self.new }
     {
@@ -83,7 +83,7 @@ impl World {
             (check_insert self.old.tree.forest parent node child) self.old self.new) }
         ensures unchanged { IsUnobserved self.old → OnErr result (self.new ≡ self.old) }
         ensures alone { is_of_kind DocumentFragment self.old.tree.forest node ≡ false →
-            parent_of self.old.tree.forest node ≡ None → OnErr result (self.new ≡ self.old) }
+            OnErr result (self.new ≡ self.old) }
         ensures kept { KeepsNodes self.old self.new }
         ensures whole { IsWhole self.new }
     {
@@ -112,7 +112,7 @@ impl World {
             (pre_insert_edits node parent child)) }
         ensures unchanged { IsUnobserved self.old → OnErr result (self.new ≡ self.old) }
         ensures alone { is_of_kind DocumentFragment self.old.tree.forest node ≡ false →
-            parent_of self.old.tree.forest node ≡ None → OnErr result (self.new ≡ self.old) }
+            OnErr result (self.new ≡ self.old) }
         ensures kept { KeepsNodes self.old self.new }
         ensures whole { IsWhole self.new }
     {
@@ -138,7 +138,7 @@ impl World {
             (insert_edits node parent child)) }
         ensures unchanged { IsUnobserved self.old → OnErr result (self.new ≡ self.old) }
         ensures alone { is_of_kind DocumentFragment self.old.tree.forest node ≡ false →
-            parent_of self.old.tree.forest node ≡ None → OnErr result (self.new ≡ self.old) }
+            OnErr result (self.new ≡ self.old) }
         ensures kept { KeepsNodes self.old self.new }
         ensures whole { IsWhole self.new }
     {
@@ -188,7 +188,7 @@ impl World {
             (check_insert self.old.tree.forest parent node None) self.old self.new) }
         ensures unchanged { IsUnobserved self.old → OnErr result (self.new ≡ self.old) }
         ensures alone { is_of_kind DocumentFragment self.old.tree.forest node ≡ false →
-            parent_of self.old.tree.forest node ≡ None → OnErr result (self.new ≡ self.old) }
+            OnErr result (self.new ≡ self.old) }
         ensures kept { KeepsNodes self.old self.new }
         ensures whole { IsWhole self.new }
     {

@@ -12,9 +12,10 @@ ghost use Rattle.dom_edit.specs.Whole.{IsWhole, IsUnobserved, Follows};
 ghost use Rattle.dom_edit.specs.KeptNodes.{KeepsNodes};
 ghost use Rattle.dom_edit.specs.OlderNodes.{LeavesOlder, IsFragmentOrRoot};
 
-use dom_payload::Content;
+use crate::removal::seat_of;
 use crate::world::World;
 use dom_kinds::Kind;
+use dom_payload::Content;
 use dom_tree::{NodeId, Tree};
 use std::alloc::{AllocError, Global};
 use std::slice::from_ref;
@@ -69,8 +70,12 @@ pub(crate) fn entering(
     Ok(Incoming::Alone)
 }
 
-// Returns the previous sibling at an insertion point: that of the child, or the last child.
-fn previous_to(tree: &Tree<Content>, parent: NodeId, child: Option<NodeId>) -> Option<NodeId>
+/// Returns the previous sibling at an insertion point: that of the child, or the last child.
+pub(crate) fn previous_to(
+    tree: &Tree<Content>,
+    parent: NodeId,
+    child: Option<NodeId>,
+) -> Option<NodeId>
     requires { IsOpen tree.now.forest parent child [] }
     ensures { result ≡ previous_to tree.now.forest parent child }
 {
@@ -144,6 +149,7 @@ impl World {
         ensures inserted { OnOk result (Follows self.old self.new
             (insert_all suppressed parent child nodes.now)) }
         ensures err { OnErr result (self.new ≡ self.old) }
+        ensures quiet { suppressed ≡ true → IsOk result }
         ensures succeeds { IsUnobserved self.old → IsOk result }
         ensures unobserved { IsUnobserved self.old → self.new.observers ≡ self.old.observers }
         ensures left { child ≡ None → LeavesOlder (parent ∷ nodes.now) self.old self.new }
@@ -163,10 +169,10 @@ impl World {
         Ok(())
     }
 
-    // Reserves room for blocks of a parent's children, if there are many. The world's value stays.
-    //
-    // Without memory for blocks, an index among the children is found by a longer walk.
-    fn reserve_child(&mut self, parent: NodeId)
+    /// Reserves room for blocks of a parent's children, if there are many. The world's value stays.
+    ///
+    /// Without memory for blocks, an index among the children is found by a longer walk.
+    pub(crate) fn reserve_child(&mut self, parent: NodeId)
         requires { HasNode self.old.tree.forest parent }
         ensures { self.new ≡ self.old }
     {
@@ -181,7 +187,34 @@ impl World {
         let _ = self.tree.reserve_blocks_for(parent, more);
     }
 
-    /// Inserts a node that is no fragment under a parent, before a child of it or last.
+    // Removes a node that is no fragment from its parent, and then inserts it. If both records can be refused, the node may be left without a parent.
+    fn remove_and_insert(
+        &mut self,
+        suppressed: bool,
+        node: NodeId,
+        parent: NodeId,
+        child: Option<NodeId>,
+    ) -> Result<(), AllocError>
+        requires whole { IsWhole self.old }
+        requires allowed { IsInsertable self.old.tree.forest node parent child }
+        requires alone { is_of_kind DocumentFragment self.old.tree.forest node ≡ false }
+        ensures inserted { OnOk result (Follows self.old self.new
+            (insert suppressed node parent child)) }
+        ensures succeeds { IsUnobserved self.old → IsOk result }
+        ensures unobserved { IsUnobserved self.old → self.new.observers ≡ self.old.observers }
+        ensures quiet { suppressed ≡ true → OnErr result (self.new ≡ self.old) }
+        ensures root { parent_of self.old.tree.forest node ≡ None → OnErr result (self.new ≡ self.old) }
+        ensures left { child ≡ None → parent_of self.old.tree.forest node ≡ None →
+            LeavesOlder (parent ∷ node ∷ []) self.old self.new }
+        ensures kept { KeepsNodes self.old self.new }
+        ensures whole { IsWhole self.new }
+    {
+        self.reserve_child(parent);
+        self.remove_node(node, false)?;
+        self.insert_all(suppressed, parent, child, &[node])
+    }
+
+    /// Inserts a node that is no fragment under a parent, before a child of it or last. After an error nothing has changed.
     #[inline(always)]
     pub(crate) fn enter_alone(
         &mut self,
@@ -197,15 +230,22 @@ impl World {
             (insert suppressed node parent child)) }
         ensures succeeds { IsUnobserved self.old → IsOk result }
         ensures unobserved { IsUnobserved self.old → self.new.observers ≡ self.old.observers }
-        ensures alone { parent_of self.old.tree.forest node ≡ None → OnErr result (self.new ≡ self.old) }
+        ensures err { OnErr result (self.new ≡ self.old) }
         ensures left { child ≡ None → parent_of self.old.tree.forest node ≡ None →
             LeavesOlder (parent ∷ node ∷ []) self.old self.new }
         ensures kept { KeepsNodes self.old self.new }
         ensures whole { IsWhole self.new }
     {
-        self.reserve_child(parent);
-        self.remove_node(node, false)?;
-        self.insert_all(suppressed, parent, child, &[node])
+        // the checker covers no variable of this type that is passed by value twice
+        let first = child;
+        let second = child;
+        if suppressed || self.observers.is_idle() {
+            return self.remove_and_insert(suppressed, node, parent, first);
+        }
+        match seat_of(&self.tree, node) {
+            Some(seat) => self.move_alone(seat, node, parent, second),
+            None => self.remove_and_insert(false, node, parent, child),
+        }
     }
 
     /// Inserts a fragment with the listed children under a parent, before a child of it or last. Does nothing if it has none.

@@ -8,8 +8,8 @@ ghost use Rattle.dom_model.specs.MutationAlgorithms.Checks.{has_kind, count_kind
 ghost use Rattle.dom_model.specs.Forests.Nodes.{is_of_kind};
 ghost use Rattle.dom_edit.specs.InsertionPoints.{child_of, keeps_child, IsUnder, refuses, IsAmong, children_ahead, from_optional, count_around, IsFound, IsAround};
 
-use dom_payload::Content;
 use dom_kinds::Kind;
+use dom_payload::Content;
 use dom_tree::{NodeId, Tree};
 
 /// An insertion point: before a child, last, or in the place of a child.

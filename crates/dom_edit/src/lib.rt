@@ -6,6 +6,7 @@ mod discard;
 mod edits;
 mod insertion;
 mod insertion_point;
+mod moves;
 mod pre_insertion;
 mod queries;
 mod refusal;

@@ -11,9 +11,9 @@ ghost use Rattle.dom_model.specs.Forests.Nodes.{kind_passes};
 ghost use Rattle.dom_model.specs.MutationAlgorithms.Checks.{if_given, check_insert, check_replace};
 ghost use Rattle.dom_edit.specs.InsertionPoints.{child_of, conditions_at};
 
-use dom_payload::Content;
 use crate::insertion_point::{InsertionPoint, is_refused};
 use dom_kinds::{DomError, Kind, may_be_parent};
+use dom_payload::Content;
 use dom_tree::{At, NodeId, Tree};
 
 // Returns whether a kind is refused under the other: a Document anywhere, a Text under a Document, a doctype under anything else.

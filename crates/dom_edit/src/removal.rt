@@ -15,19 +15,19 @@ ghost use Rattle.dom_edit.specs.ChildPositions.{IsSeat};
 ghost use Rattle.dom_observe.specs.ObservedNodes.{NamesNoneOf, SameObservers};
 ghost use Rattle.dom_tree.specs.Spots.{node_at};
 
-use dom_payload::Content;
 use crate::world::World;
 use dom_model::RecordType;
 use dom_observe::Mutation;
+use dom_payload::Content;
 use dom_tree::{At, NodeId, Tree};
 use std::alloc::AllocError;
 
-// A child's neighbours: its parent and two siblings.
+/// A child's neighbours: its parent and two siblings.
 #[derive(Clone, Copy)]
-struct ChildPosition {
-    parent: NodeId,
-    previous: Option<NodeId>,
-    next: Option<NodeId>,
+pub(crate) struct ChildPosition {
+    pub(crate) parent: NodeId,
+    pub(crate) previous: Option<NodeId>,
+    pub(crate) next: Option<NodeId>,
 }
 
 // Returns the number of a node, if there is one.
@@ -40,8 +40,8 @@ fn number(node: Option<At<'_, Content>>) -> Option<NodeId>
     }
 }
 
-// Returns a node's neighbours, or none for a root, with one look-up.
-fn seat_of(tree: &Tree<Content>, node: NodeId) -> Option<ChildPosition>
+/// Returns a node's neighbours, or none for a root, with one look-up.
+pub(crate) fn seat_of(tree: &Tree<Content>, node: NodeId) -> Option<ChildPosition>
     requires { HasNode tree.now.forest node }
     ensures { MatchOption result (parent_of tree.now.forest node
         ≡ None) (λ s. IsSeat tree.now.forest node s) }
@@ -82,8 +82,8 @@ impl World {
         self.tree.cut(node);
     }
 
-    // Moves live range ends and iterators away, and then makes the node a root.
-    fn take_out(&mut self, parent: NodeId, node: NodeId)
+    /// Moves live range ends and iterators away, and then makes the node a root.
+    pub(crate) fn take_out(&mut self, parent: NodeId, node: NodeId)
         requires whole { IsWhole self.old }
         requires child { parent_of self.old.tree.forest node ≡ Some parent }
         ensures taken { IfSome (parent_of self.old.tree.forest node) (λ parent.

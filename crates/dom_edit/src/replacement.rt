@@ -10,11 +10,11 @@ ghost use Rattle.dom_edit.specs.Refusals.{check_only_child};
 ghost use Rattle.dom_edit.specs.Whole.{IsWhole, IsUnobserved, Follows};
 ghost use Rattle.dom_edit.specs.KeptNodes.{KeepsNodes};
 
-use dom_payload::Content;
 use crate::insertion::{Incoming, entering};
 use crate::pre_insertion::check_insert;
 use crate::world::World;
 use dom_kinds::DomError;
+use dom_payload::Content;
 use dom_tree::{NodeId, Tree};
 use std::alloc::{AllocError, Global};
 

@@ -9,8 +9,8 @@ ghost use Rattle.dom_edit.specs.KeptNodes.{KeepsNodes};
 ghost use Rattle.dom_edit.specs.OlderNodes.{LeavesOlder};
 ghost use Rattle.std.specs.Prelude.{Some, None, [], ◌∷◌};
 
-use dom_payload::Content;
 use crate::world::World;
+use dom_payload::Content;
 use dom_tree::{NodeId, Tree};
 
 // Inserts a root and sets its node document. Visits its descendants only if that document changes.

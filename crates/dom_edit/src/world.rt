@@ -11,9 +11,9 @@ ghost use Rattle.dom_model.specs.Forests.Nodes.{is_of_kind};
 ghost use Rattle.dom_edit.specs.Whole.{IsWhole, Shows, CoversAhead, Follows};
 ghost use Rattle.dom_edit.specs.KeptNodes.{KeepsLabels};
 
-use dom_payload::Content;
 use dom_kinds::{Kind, Label};
 use dom_observe::Observers;
+use dom_payload::Content;
 use dom_ranges::{Ranges, Statics};
 use dom_traverse::{NodeIterators, Walkers};
 use dom_tree::{NodeId, Tree};

@@ -1,6 +1,7 @@
 pub mod ReobserveLemmas
 pub mod AgreeLemmas
 pub mod IsOnlyLemmas
+pub mod IsRemovalQueuedLemmas
 pub mod QuestionLemmas
 pub mod IsAwaitedLemmas
 pub mod ClimbLemmas

@@ -1,9 +1,9 @@
 -- What observers name, as their registrations and queues change.
-use Rattle.std.proofs.Common.{◌≡◌, ◌≢◌, ℕ, zero, suc, ◌<◌, ◌==◌, Bool, true, false, ◌||◌, if◌then◌else◌, List, [], ◌∷◌, ◌++◌, length, map, filter, Option, None, Some, option_map, refl, ap, sym, ◌∙◌, subst, nat_eq, unwrap_or, slice_index_or, slice_set, flat_map}
+use Rattle.std.proofs.Common.{◌≡◌, ◌≢◌, ℕ, zero, suc, ◌<◌, ◌==◌, Bool, true, false, ◌||◌, if◌then◌else◌, List, [], ◌∷◌, ◌++◌, length, map, filter, Option, None, Some, option_map, refl, ap, sym, ◌∙◌, subst, nat_eq, append_assoc, unwrap_or, slice_index_or, slice_set, flat_map}
 use Rattle.std.specs.{Map.keys_of, Option.option_map_or, List.list_any, List.IsDistinct, List.AllByRecursion}
 use Rattle.std.proofs.lemmas.{Bool.true≢false, Bool.or_parts, Bool.or_from, List.Folds.list_any-append, Map.Made.keys_of-map_values}
 use Rattle.dom_model.specs.Definitions.{among, Options, Registration, Mutation, Record, transient_of, nodes_of_registration, nodes_of_record}
-use Rattle.dom_model.proofs.PlainLists.Numbers.{Same, same_or, same, apart}
+use Rattle.dom_model.proofs.PlainLists.{Numbers.Same, Numbers.same_or, Numbers.same, Numbers.apart, Searches.among-both}
 use Rattle.dom_model.proofs.RangesAndContents.RangesElsewhere.{among-any}
 use Rattle.dom_observe.specs.{declared.registration.EndedRegistrations.EndedRegistrations, Watchers.Watchers, Watchers.records_at, Watchers.on, ObservedNodes.referred_nodes, ObservedNodes.watching, ObservedNodes.nodes_of_mutation, ObservedNodes.NamesOnly, ObservedNodes.SameObservers, Registrations.Registered, Registrations.at, Registrations.found, Registrations.spares, Registrations.unless_ended, Registrations.is_live, Registrations.AllLive, Registrations.StandsOn, Registrations.Added, Registrations.with_new_options, Registrations.transient_under, Invariant.registered_nodes, Invariant.has_queue, Invariant.HoldsInvariant, QueuedNodes.names_one, QueuedNodes.NamesNone, QueuedNodes.RecordsNameNone, Interested.delivered}
 use Rattle.dom_observe.proofs.{QuestionLemmas.any-found, ListAnyLemmas.list_any-map, InvariantLemmas.on-registered_nodes, QueueListLemmas.records-set, QueueListLemmas.records-gone, QueueListLemmas.records-stay, QueueListLemmas.records-more, ObservedNodesLemmas.any-flat, ObservedNodesLemmas.none_under, ObservedNodesLemmas.some_under, RegistrationTableLemmas.all_imply, RegistrationTableLemmas.all_append, RegistrationTableLemmas.all_filter, RegistrationTableLemmas.all_at, RegistrationTableLemmas.transient_shape, RegistrationTableLemmas.alike-added}
@@ -132,6 +132,31 @@ pub names-same : (reg : Registered) (queues : List (Option (List Record))) (pend
     → (old : Watchers) → record { nodes = registered_nodes reg; queues = queues; pending = pending } ≡ old → (these : List ℕ) → NamesOnly these old old
 names-same reg queues pending kept old is these =
     subst (NamesOnly these old) is (names-only reg queues pending old is reg queues pending kept these (λ p _ names tells. (names, tells)))
+
+-- two steps, one after the other
+pub names-both : (xs ys : List ℕ) (a b c : Watchers) → NamesOnly xs a b → NamesOnly ys b c → NamesOnly (xs ++ ys) a c
+names-both xs ys a b c f g = record { nodes = nodes; observers = g.observers }
+  where
+    or-true : (h : Bool) → (h || true) ≡ true
+    or-true true = refl
+    or-true false = refl
+
+    nodes : (n : ℕ) → among n (referred_nodes c) ≡ true → among n (referred_nodes a ++ (xs ++ ys)) ≡ true
+    nodes n there = ap (among n) (sym (append_assoc (referred_nodes a) xs ys)) ∙ among-both n (referred_nodes a ++ xs) ys ∙ go (among n (referred_nodes b)) refl
+      where
+        go : (h : Bool) → among n (referred_nodes b) ≡ h → (among n (referred_nodes a ++ xs) || among n ys) ≡ true
+        go true e = ap (λ h. h || among n ys) (f.nodes n e)
+        go false e =
+            ap (λ h. among n (referred_nodes a ++ xs) || h) (sym (ap (λ h. h || among n ys) e) ∙ sym (among-both n (referred_nodes b) ys) ∙ g.nodes n there)
+            ∙ or-true (among n (referred_nodes a ++ xs))
+
+-- more of them
+pub names-more : (xs ys : List ℕ) (a b : Watchers) → NamesOnly xs a b → NamesOnly (xs ++ ys) a b
+names-more xs ys a b f = names-both xs ys a b b f (record { nodes = λ n there. among-both n (referred_nodes b) ys ∙ ap (λ h. h || among n ys) there; observers = f.observers })
+
+-- the same observers are there after both steps
+pub same-both : (a b c : Watchers) → SameObservers a b → SameObservers b c → SameObservers a c
+same-both a b c f g = record { made = g.made ∙ f.made; there = λ i. g.there i ∙ f.there i }
 
 -- the same queues are of the same observers
 pub same-queues : (old new : Watchers) → new.queues ≡ old.queues → SameObservers old new

@@ -40,7 +40,7 @@ kept-left reg queues pending kept reg' queues' same_queues are stand = subst (λ
 
 -- No other node gets a transient registration.
 
-off : (node n : ℕ) (ns : List ℕ) → among node (n ∷ ns) ≡ false → ((node ≡ n → ⊥) × (among node ns ≡ false))
+pub off : (node n : ℕ) (ns : List ℕ) → among node (n ∷ ns) ≡ false → ((node ≡ n → ⊥) × (among node ns ≡ false))
 off node n ns h = elim (same_or n node) [
   | same e t ↦ absurd (let k = rw t at h in true≢false k)
   | apart ne t ↦ let k = rw t at h in (λ e. ne (sym e), k)

@@ -26,6 +26,12 @@ fused f u (k ∷ keys) = go (u k) (fused f u keys)
     go None i = i
     go (Some r) i = ap (cons_option (f r)) i
 
+-- where no node has any, none has
+pub bare : {A : Type 0} (lists : List (ℕ × List A)) → (length lists == 0) ≡ true → (ns : List ℕ) → flat_map (λ n. on n lists) ns ≡ []
+bare [] e [] = refl
+bare [] e (n ∷ ns) = bare [] e ns
+bare (l ∷ lists) e ns = elim (same_or (length (l ∷ lists)) 0) [ same d t ↦ absurd (omega (arith, d)) | apart ne t ↦ absurd (true≢false (sym e ∙ t)) ]
+
 module _ (reg : Registered) (queues : List (Option (List Record))) (pending : List ℕ) (m : Mutation) where
   abbrev shown : Watchers
   shown = record { nodes = registered_nodes reg; queues = queues; pending = pending }
@@ -41,11 +47,6 @@ module _ (reg : Registered) (queues : List (Option (List Record))) (pending : Li
   -- where nothing is registered, nobody is
   pub heard-idle : (ns : List ℕ) → (length reg.lists == 0) ≡ true → heard_at ns m shown ≡ []
   heard-idle ns empty = heard-listeners ns ∙ ap (listeners (at reg) m.type m.target m.name) (bare reg.lists empty ns)
-    where
-      bare : (lists : List (ℕ × List ℕ)) → (length lists == 0) ≡ true → (ns : List ℕ) → flat_map (λ n. on n lists) ns ≡ []
-      bare [] e [] = refl
-      bare [] e (n ∷ ns) = bare [] e ns
-      bare (l ∷ lists) e ns = elim (same_or (length (l ∷ lists)) 0) [ same d t ↦ absurd (omega (arith, d)) | apart ne t ↦ absurd (true≢false (sym e ∙ t)) ]
 
 -- one who is heard has a flag
 module _ (u : ℕ → Option Registration) (what : RecordType) (target : ℕ) (name : Option (List ℕ)) (p : ℕ) where

@@ -2,6 +2,7 @@
 #![tactic(auto)]
 
 mod filter;
+mod moves;
 mod node_keys;
 mod node_references;
 mod notification;

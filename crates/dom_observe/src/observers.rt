@@ -13,7 +13,7 @@ ghost use Rattle.dom_observe.specs.Notification.{waiting_in, IsNotified};
 ghost use Rattle.dom_observe.specs.WithoutRepeats.{once};
 ghost use Rattle.dom_observe.specs.Removal.{removed_below};
 ghost use Rattle.dom_observe.specs.Sound.{AreSoundWatchers};
-ghost use Rattle.dom_observe.specs.Undoing.{IsQueued};
+ghost use Rattle.dom_observe.specs.Undoing.{IsQueued, IsRemovalQueued};
 ghost use Rattle.dom_observe.specs.Watchers.{queue_in, records_at, registrations_in, Watches, StepsObserving, AnswersQuestion};
 
 use crate::filter::Interests;
@@ -369,6 +369,8 @@ impl Observers {
         ensures made { SameObservers self.old self.new }
         ensures quiet { NamesNoneOf (ancestors mutation.now.target tree.now.forest) self.old →
             self.new ≡ self.old }
+        ensures own { OnOk result (IsRemovalQueued node (ancestors mutation.now.target tree.now.forest)
+            mutation.now self.old self.new) }
     {
         if self.is_idle() {
             return Ok(());

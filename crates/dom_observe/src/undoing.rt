@@ -1,18 +1,20 @@
-//! Taking back the records of a mutation that was queued.
+//! Taking back the records of a mutation that was queued, and the transient registrations of a node that was to be removed.
 
-ghost use Rattle.std.specs.Prelude.{◌≡◌, ℕ, ◌+◌, ◌-◌, ◌≤◌, ◌&&◌, true, [], length, take, drop, if◌then◌else◌};
-ghost use Rattle.std.specs.List.{list_any};
+ghost use Rattle.std.specs.Prelude.{◌≡◌, ℕ, ◌+◌, ◌-◌, ◌≤◌, ◌&&◌, true, [], length, take, drop, if◌then◌else◌, is_some};
+ghost use Rattle.std.specs.List.{AllByRecursion, list_any};
 ghost use Rattle.indexmap.specs.IndexSet.{spare};
 ghost use Rattle.dom_model.specs.PlainLists.Lists.{among};
 ghost use Rattle.dom_model.specs.PlainLists.LastOnce.{with_all_last};
 ghost use Rattle.dom_model.specs.Forests.Forest.{HasNode, ancestors};
+ghost use Rattle.dom_model.specs.Worlds.World.{Registration as PlainRegistration};
 ghost use Rattle.dom_observe.specs.Names.{given_name};
 ghost use Rattle.dom_observe.specs.Registrations.{at};
 ghost use Rattle.dom_observe.specs.Invariant.{AllThere};
 ghost use Rattle.dom_observe.specs.ObservedNodes.{NamesOnly, SameObservers};
 ghost use Rattle.dom_observe.specs.Roster.{keys_by, is_there, records_of};
-ghost use Rattle.dom_observe.specs.Undoing.{IsQueued, hears_under, hears_at};
-ghost use Rattle.dom_observe.specs.Watchers.{Watchers};
+ghost use Rattle.dom_observe.specs.Sound.{AreSoundWatchers};
+ghost use Rattle.dom_observe.specs.Undoing.{IsQueued, IsRemovalQueued, hears_under, hears_at};
+ghost use Rattle.dom_observe.specs.Watchers.{Watchers, on};
 
 use crate::observer_id::ObserverId;
 use crate::observers::Observers;
@@ -21,7 +23,8 @@ use crate::record::Mutation;
 use crate::registration::Question;
 use crate::registrations::Registrations;
 use crate::roster::Roster;
-use dom_tree::Tree;
+use crate::transient_registrations::end_added;
+use dom_tree::{NodeId, Tree};
 use indexmap::IndexSet;
 
 // Returns whether the registration under a key makes an observer interested.
@@ -140,6 +143,7 @@ impl Observers {
         ensures undone { (older : Watchers) →
             IsQueued (ancestors mutation.now.target tree.now.forest) mutation.now older self.old →
             pending ≡ length older.pending → self.new ≡ older }
+        ensures nodes { self.new.nodes ≡ self.old.nodes }
         ensures names { NamesOnly [] self.old self.new }
         ensures made { SameObservers self.old self.new }
     {
@@ -152,5 +156,31 @@ impl Observers {
             &question,
         );
         shorten(&mut self.pending, &mut self.untold, pending);
+    }
+
+    // Takes back what `removed` has just done: the records of the removal, and the transient registrations that the node got. Observers are as they
+    // were before. It takes no memory.
+    //
+    // `count` is how many registrations the node had before, `pending` how many observers were pending. The target must have the ancestors that it
+    // had then.
+    pub(crate) fn unremove<X>(
+        &mut self,
+        tree: &Tree<X>,
+        node: NodeId,
+        removal: &Mutation<'_>,
+        count: usize,
+        pending: usize,
+    )
+        requires held { HasNode tree.now.forest removal.now.target }
+        requires passing { AllByRecursion (λ (r : PlainRegistration). is_some r.source ≡ true)
+            (drop count (on node self.old.nodes)) }
+        ensures undone { (older : Watchers) → AreSoundWatchers older →
+            IsRemovalQueued node (ancestors removal.now.target tree.now.forest) removal.now older self.old →
+            count ≡ length (on node older.nodes) → pending ≡ length older.pending → self.new ≡ older }
+        ensures names { NamesOnly [] self.old self.new }
+        ensures made { SameObservers self.old self.new }
+    {
+        self.unqueue(tree, removal, pending);
+        end_added(&mut self.registrations, &mut self.roster, node, count);
     }
 }

@@ -1,8 +1,8 @@
 -- What is as it was if memory was refused, and for which commands it is.
-use Rattle.std.proofs.Common.{◌≡◌, ℕ, ◌==◌, ◌||◌, not, Option, None, Some, is_some, Bool, true, false, List, [], length, Result, Ok, Err, OnErr, refl, sym, subst, ap}
-use Rattle.std.proofs.lemmas.{Bool.eqb-true, Bool.and_parts, Bool.not-true, Bool.false≢true, List.nil_from_length}
+use Rattle.std.proofs.Common.{◌≡◌, ℕ, ◌==◌, ◌||◌, not, Bool, true, false, List, [], length, Result, Ok, Err, OnErr, refl, sym, subst, ap}
+use Rattle.std.proofs.lemmas.{Bool.eqb-true, Bool.not-true, List.nil_from_length}
 use Rattle.dom_model.specs.declared.Kind.TheVariants.{DocumentFragment}
-use Rattle.dom_model.specs.Definitions.{parent_of, is_of_kind}
+use Rattle.dom_model.specs.Definitions.{is_of_kind}
 use Rattle.dom_model.specs.Commands.Command.{Command}
 use Rattle.dom_model.specs.Commands.Answer.{Bounds}
 use Rattle.dom_observe.specs.Watchers.{Watches}
@@ -85,7 +85,7 @@ ending-editing (AdoptNode document node) = refl
 ending-editing (ReplaceChild parent node child) = refl
 ending-editing (RemoveChild parent child) = refl
 ending-editing (Remove node) = refl
-ending-editing (ReplaceChildren parent given) = refl
+ending-editing (ReplaceChildren parent node) = refl
 ending-editing (Discard node) = refl
 
 pub going-asking : (c : Asking) → goes_on (asking_view c) ≡ true
@@ -148,13 +148,7 @@ pub either-way : {P : Type 0} (a b : Bool) → (a || b) ≡ true → (a ≡ true
 either-way true b e first second = first refl
 either-way false b e first second = second e
 
-none-of : {A : Type 0} (o : Option A) → not (is_some o) ≡ true → o ≡ None
-none-of None e = refl
-none-of (Some x) e = absurd (false≢true e)
-
--- an edit that brings a node in changes nothing if nobody observes, or if the node comes in as one, from no parent
-pub alone-or-unobserved : {P : Type 0} (v : World) (n : ℕ) → (is_unobserved v || is_lone v n) ≡ true → (IsUnobserved v → P) → (is_of_kind DocumentFragment v.tree.forest n ≡ false → parent_of v.tree.forest n ≡ None → P) → P
+-- an edit that brings a node in changes nothing if nobody observes, or if the node comes in as one
+pub alone-or-unobserved : {P : Type 0} (v : World) (n : ℕ) → (is_unobserved v || is_lone v n) ≡ true → (IsUnobserved v → P) → (is_of_kind DocumentFragment v.tree.forest n ≡ false → P) → P
 alone-or-unobserved v n may idle alone =
-    either-way (is_unobserved v) (is_lone v n) may (λ none. idle (none-listed v.observers.nodes none)) (λ lone.
-    let parts = and_parts (not (is_some (parent_of v.tree.forest n))) (not (is_of_kind DocumentFragment v.tree.forest n)) lone in
-    alone (not-true (is_of_kind DocumentFragment v.tree.forest n) parts.1) (none-of (parent_of v.tree.forest n) parts.0))
+    either-way (is_unobserved v) (is_lone v n) may (λ none. idle (none-listed v.observers.nodes none)) (λ lone. alone (not-true (is_of_kind DocumentFragment v.tree.forest n) lone))

@@ -1,7 +1,6 @@
 -- Which commands change nothing if they are refused memory, so that the session goes on. Ours.
-use Rattle.std.specs.Prelude.{ℕ, ◌==◌, Bool, true, false, not, ◌&&◌, ◌||◌, length, is_some}
+use Rattle.std.specs.Prelude.{ℕ, ◌==◌, Bool, true, false, not, ◌||◌, length}
 use Rattle.dom_model.specs.declared.Kind.TheVariants.{DocumentFragment}
-use Rattle.dom_model.specs.Forests.Forest.{parent_of}
 use Rattle.dom_model.specs.Forests.Nodes.{is_of_kind}
 use Rattle.dom_edit.specs.declared.world.World.{World}
 use Rattle.dom_model.specs.Commands.Command.{Command, NewDocument, CreateElement, CreateText, CreateComment, CreatePI, CreateDoctype, CreateFragment, DescribeNode, Children, Index, Length, Root, IsContaining, IsEqual, ComparePosition, TextContent, Tree, GetData, SubstringData, GetAttribute, HasAttribute, AttributeNames, CreateRange, CloneRange, DescribeRange, SetStart, SetEnd, SetStartBefore, SetStartAfter, SetEndBefore, SetEndAfter, Collapse, SelectNode, SelectNodeContents, CompareBoundaryPoints, ComparePoint, IsPointInRange, IntersectsNode, CommonAncestor, RangeText, ReleaseRange, CreateIterator, CreateWalker, DescribeIterator, NextNode, PreviousNode, DescribeWalker, SetCurrent, Walk, CreateObserver, Observe, Disconnect, TakeRecords, Notify, Pending, CreateStaticRange, DescribeStaticRange, ReleaseIterator, ReleaseWalker, ReleaseStaticRange, ReleaseObserver, TakePending, TellObserver, InsertBefore, AppendChild, AdoptNode, ReplaceChild, RemoveChild, Remove, ReplaceChildren, Discard, SetData, AppendData, InsertData, DeleteData, ReplaceData, SetAttribute, RemoveAttribute, ToggleAttribute}
@@ -81,9 +80,9 @@ is_all_or_nothing _ = false
 abbrev pub is_unobserved : World → Bool
 is_unobserved v = length v.observers.nodes == 0
 
--- a node comes in as one, from no parent
+-- a node comes in as one
 abbrev pub is_lone : World → ℕ → Bool
-is_lone v n = not (is_some (parent_of v.tree.forest n)) && not (is_of_kind DocumentFragment v.tree.forest n)
+is_lone v n = not (is_of_kind DocumentFragment v.tree.forest n)
 
 -- a further command that changes nothing in this world if it is refused memory
 abbrev pub is_unchanged_in : World → Command → Bool

@@ -58,6 +58,11 @@ no_such_object = brief.Own NoSuchObject
 abbrev pub found_node : Option ℕ → Brief
 found_node found = brief.MaybeNumber found
 
+-- the node in a reply that found one
+abbrev pub found_in : Brief → Option ℕ
+found_in (brief.MaybeNumber found) = found
+found_in _ = None
+
 abbrev pub last_view : Option Brief → Option Reply
 last_view last = option_map (λ (b : Brief). reply_view (reply_of b)) last
 

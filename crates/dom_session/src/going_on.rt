@@ -87,17 +87,15 @@ pub(crate) fn goes_on(command: &Command) -> bool
     }
 }
 
-// Returns whether a node comes in as one, from no parent. One that is not there counts too.
+// Returns whether a node comes in as one. One that is not there counts too.
 fn is_lone(world: &World, node: NodeId) -> bool
     ensures { result ≡ is_lone world.now node }
 {
-    !world.tree.holds(node)
-        || (world.tree.parent(node).is_none()
-            && !world.tree.is_of_kind(node, Kind::DocumentFragment))
+    !world.tree.holds(node) || !world.tree.is_of_kind(node, Kind::DocumentFragment)
 }
 
 /// Returns whether an edit of the tree changes nothing in this world if it is refused memory: if nobody observes, if it takes a node out, or if it
-/// brings in one node that has no parent.
+/// brings in one node.
 pub(crate) fn is_edit_unchanged(world: &World, command: &Editing) -> bool
     ensures { result ≡ is_unchanged_in world.now (editing_view command.now) }
 {

@@ -250,7 +250,7 @@ impl Session {
     }
 
     /// Applies an edit of the tree as `apply` does, with fewer arguments to pass. It ends no session if nobody observes, if it takes a node out, or if it
-    /// brings in one node that has no parent.
+    /// brings in one node.
     #[inline(always)]
     pub fn edit(&mut self, command: Editing) -> Result<Brief, OutOfMemory>
         ensures answers { IfOk result

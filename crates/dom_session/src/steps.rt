@@ -8,13 +8,13 @@ ghost use Rattle.dom_model.specs.Commands.Reply.{is_refusal};
 ghost use Rattle.dom_edit.specs.Whole.{Shows, IsShown};
 ghost use Rattle.dom_commands.specs.Brief.{reply_of};
 ghost use Rattle.dom_commands.specs.Views.{reply_view};
-ghost use Rattle.dom_session.specs.StepsInTurn.{steps_in_turn, AreMade};
+ghost use Rattle.dom_session.specs.StepsInTurn.{steps_in_turn, AreMade, found_in};
 
+use crate::traversal::{next_node, walk};
 use dom_commands::Brief;
 use dom_edit::World;
 use dom_model::{Move, OwnError};
 use dom_traverse::{IteratorId, WalkerId};
-use dom_tree::NodeId;
 
 /// How many steps found a node, and the reply to the last step, if there was one.
 #[derive(Clone, Copy, Debug, PartialEq, Eq)]
@@ -60,13 +60,13 @@ pub(crate) trait Steps: Copy {
         ensures held { held_in self world.new ≡ true };
 }
 
-// The number of a node that was found.
-fn number_of(found: Option<NodeId>) -> Option<u32>
-    ensures { result ≡ found }
+// The number of the node that a step found.
+fn number_in(reply: Brief) -> Option<u32>
+    ensures { result ≡ found_in reply }
 {
-    match found {
-        Some(node) => Some(node.number()),
-        None => None,
+    match reply {
+        Brief::MaybeNumber(found) => found,
+        Brief::Nothing | Brief::Number(_) | Brief::Dom(_) | Brief::Own(_) => None,
     }
 }
 
@@ -90,8 +90,8 @@ impl Steps for NextNodes {
     }
 
     fn step(self, world: &mut World) -> Option<u32> {
-        let found = world.iterators.next(&world.tree, self.iterator);
-        number_of(found)
+        let reply = next_node(world, self.iterator);
+        number_in(reply)
     }
 }
 
@@ -116,8 +116,8 @@ impl Steps for Walks {
     }
 
     fn step(self, world: &mut World) -> Option<u32> {
-        let found = world.walkers.step(&world.tree, self.walker, self.direction);
-        number_of(found)
+        let reply = walk(world, self.walker, self.direction);
+        number_in(reply)
     }
 }
 

@@ -1,15 +1,17 @@
 //! The commands on iterators and walkers (DOM Standard, "Traversal").
 
-ghost use Rattle.std.specs.Prelude.{◌≡◌, ◌≤◌, IfOk, OnErr};
+ghost use Rattle.std.specs.Prelude.{◌≡◌, ◌≤◌, true, is_some, IfOk, OnErr};
 ghost use Rattle.dom_model.specs.Commands.Command.{CreateIterator, CreateWalker, DescribeIterator, NextNode, PreviousNode, DescribeWalker, SetCurrent, Walk, ReleaseIterator, ReleaseWalker};
 ghost use Rattle.dom_model.specs.Commands.Guards.{Bounds};
 ghost use Rattle.dom_model.specs.Commands.Reply.{Done, MaybeNumber};
+ghost use Rattle.dom_traverse.specs.Items.{iterator_in, walker_in};
 ghost use Rattle.dom_edit.specs.Whole.{IsShown};
 ghost use Rattle.dom_commands.specs.Brief.{reply_of};
 ghost use Rattle.dom_commands.specs.Views.{traversing_view, reply_view};
 ghost use Rattle.dom_session.specs.SessionViews.{IsStep, RepliesTo};
 ghost use Rattle.dom_session.specs.OutOfMemory.{KeepsWholeWorld};
 ghost use Rattle.dom_session.specs.AnswerBounds.{numbered};
+ghost use Rattle.dom_session.specs.StepsInTurn.{found_node, found_in};
 
 use dom_commands::{Answer, Brief, Reply, Traversing};
 use dom_edit::World;
@@ -20,7 +22,8 @@ use std::alloc::AllocError;
 
 // The number of a node, where one is found.
 fn brief_found(found: Option<NodeId>) -> Brief
-    ensures { reply_view (reply_of result) ≡ Done (MaybeNumber found) }
+    ensures reply { reply_view (reply_of result) ≡ Done (MaybeNumber found) }
+    ensures brief { result ≡ found_node found }
 {
     match found {
         Some(node) => Brief::MaybeNumber(Some(node.number())),
@@ -93,6 +96,10 @@ pub(crate) fn next_node(world: &mut World, iterator: IteratorId) -> Brief
     requires shown { IsShown world.old }
     ensures step { (b : Bounds) → IsStep world.old world.new b (NextNode iterator)
         (reply_of result) }
+    ensures found { is_some (iterator_in world.old.iterators iterator) ≡ true →
+        found_node (found_in result) ≡ result }
+    ensures held { is_some (iterator_in world.old.iterators iterator) ≡ true →
+        is_some (iterator_in world.new.iterators iterator) ≡ true }
 {
     if !world.iterators.holds(iterator) {
         return Brief::Own(OwnError::NoSuchObject);
@@ -143,6 +150,10 @@ pub(crate) fn walk(world: &mut World, walker: WalkerId, direction: Move) -> Brie
     requires shown { IsShown world.old }
     ensures step { (b : Bounds) → IsStep world.old world.new b (Walk walker direction)
         (reply_of result) }
+    ensures found { is_some (walker_in world.old.walkers walker) ≡ true →
+        found_node (found_in result) ≡ result }
+    ensures held { is_some (walker_in world.old.walkers walker) ≡ true →
+        is_some (walker_in world.new.walkers walker) ≡ true }
 {
     if !world.walkers.holds(walker) {
         return Brief::Own(OwnError::NoSuchObject);

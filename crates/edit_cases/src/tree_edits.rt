@@ -217,6 +217,24 @@ const A_NODE_LEAVES: &[Row] = &[
     Row::Then(When::Always, &[Fact::Children(1, &[2, 3, 5, 8])]),
 ];
 
+// Moves Text 8 to another parent. If memory is refused it stays where it was, and it tries once more.
+const A_NODE_MOVES: &[Row] = &[
+    Row::Try(Call::Insert(1, 8, 3)),
+    Row::Then(
+        When::Refused,
+        &[
+            Fact::Held(13),
+            Fact::Children(1, &[2, 3, 5]),
+            Fact::Children(6, &[7, 8, 9]),
+        ],
+    ),
+    Row::Again(Call::Insert(1, 8, 3)),
+    Row::Then(
+        When::Always,
+        &[Fact::Children(1, &[2, 8, 3, 5]), Fact::Children(6, &[7, 9])],
+    ),
+];
+
 // Returns the node with a number, if one is given, and asserts that it exists.
 fn held_if_any(rt: &impl Abort, world: &World, number: Option<u32>) -> Option<NodeId>
     ensures { ForSome result (λ n. HasNode world.now.tree.forest n) }
@@ -310,6 +328,7 @@ fn scenes(rt: HostRuntime) -> Result<(), Fail> {
         ("all children leave", ALL_CHILDREN_LEAVE),
         ("a child leaves", A_CHILD_LEAVES),
         ("a node leaves", A_NODE_LEAVES),
+        ("a node moves", A_NODE_MOVES),
         ("all children are replaced", ALL_CHILDREN_ARE_REPLACED),
         ("a tree is adopted", A_TREE_IS_ADOPTED),
     ];

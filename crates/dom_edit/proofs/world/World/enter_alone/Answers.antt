@@ -1,59 +1,37 @@
-use Rattle.std.proofs.Common.{◌≡◌, false, None, [], ◌∷◌, refl, sym, subst, tests, rules}
-use Rattle.std.proofs.lemmas.Result.{on_ok_weaker}
-use Rattle.dom_model.specs.Definitions.{HasNode, parent_of, remove}
+-- A node that has a parent moves whole or not at all; otherwise there is one record at most.
+use Rattle.std.proofs.Common.{◌≡◌, true, [], length, Some, None, ◌==◌, ap, sym, ◌∙◌, subst, Option}
+use Rattle.std.proofs.lemmas.Bool.{true≢false}
 use Rattle.dom_model.proofs.Forests.Entries.{HasNode-occurs}
-use Rattle.dom_edit.specs.{declared.world.World.World, KeptNodes.KeepsNodes, OlderNodes.LeavesAll, Whole.IsWhole, Whole.Follows}
-use Rattle.dom_edit.proofs.{InsertLemmas.alone-entering, InsertLemmas.follows-freed_alone, InsertLemmas.open-freed, InsertLemmas.follows-insert, LeavesOlderLemmas.same-left, KeepsNodesLemmas.nodes-then}
+use Rattle.dom_edit.proofs.MoveNotedLemmas.{no-err, nobody}
 use Rattle.dom_edit.proofs.world.World.enter_alone.Goals as goal
 
-pub reserve_child-requires : goal.reserve_child-requires
-reserve_child-requires c = HasNode-occurs c.args.self.now.tree.forest c.args.parent c.requires.allowed.parent_there
+pub seat_of-requires : goal.seat_of-requires
+seat_of-requires c = HasNode-occurs c.args.self.now.tree.forest c.args.node c.requires.allowed.there
 
-pub remove_node-requires-clause-whole : goal.remove_node-requires-clause-whole
-remove_node-requires-clause-whole c = subst IsWhole (sym c.reserve_child.ensures) c.requires.whole
+pub returns-then-suppressed-clause-err : goal.returns-then-suppressed-clause-err
+returns-then-suppressed-clause-err c =
+    elim c.then-suppressed.branch [
+      | goal.then-suppressed-via-then-suppressed w ↦ c.remove_and_insert.ensures.quiet w.if-suppressed.true
+      | goal.then-suppressed-via-else-suppressed+then-is_idle w ↦
+          no-err c.remove_and_insert.result (c.remove_and_insert.new.self ≡ c.args.self.now) (c.remove_and_insert.ensures.succeeds (nobody c.args.self.now.observers.nodes (sym w.is_idle.ensures.own ∙ w.if-is_idle.true)))
+    ]
 
-pub remove_node-requires-clause-held : goal.remove_node-requires-clause-held
-remove_node-requires-clause-held c =
-    subst (λ (w : World). HasNode w.tree.forest c.args.node) (sym c.reserve_child.ensures) (HasNode-occurs c.args.self.now.tree.forest c.args.node c.requires.allowed.there)
+pub returns-in-Some-clause-inserted : goal.returns-in-Some-clause-inserted
+returns-in-Some-clause-inserted c = rw c.if-suppressed.false c.move_alone.ensures.inserted
 
-pub insert_all-requires-clause-ready : goal.insert_all-requires-clause-ready
-insert_all-requires-clause-ready c =
-    let v = c.args.self.now in
-    let n = c.args.node in
-    let left = subst (λ (w : World). Follows w c.remove_node.new.self (remove false n)) c.reserve_child.ensures c.in_ok-remove_node.ensures.removed in
-    open-freed v c.remove_node.new.self n c.args.parent c.args.child (n ∷ []) c.requires.whole c.requires.allowed (alone-entering v.tree.forest n c.requires.alone)
-    (follows-freed_alone v c.remove_node.new.self n (n ∷ []) c.requires.alone left)
+pub returns-in-Some-clause-succeeds : goal.returns-in-Some-clause-succeeds
+returns-in-Some-clause-succeeds c none =
+    absurd (true≢false (sym (c.is_idle.ensures.own ∙ ap (λ ns. length ns == 0) none) ∙ c.if-is_idle.false))
 
-pub returns-clause-inserted : goal.returns-clause-inserted
-returns-clause-inserted c =
-    let v = c.args.self.now in
-    let n = c.args.node in
-    let left = subst (λ (w : World). Follows w c.remove_node.new.self (remove false n)) c.reserve_child.ensures c.in_ok-remove_node.ensures.removed in
-    on_ok_weaker c.insert_all.result
-    (follows-insert v c.remove_node.new.self c.insert_all.new.self n c.args.parent c.args.child (n ∷ []) c.args.suppressed refl (alone-entering v.tree.forest n c.requires.alone)
-    (follows-freed_alone v c.remove_node.new.self n (n ∷ []) c.requires.alone left))
-    c.insert_all.ensures.inserted
+pub returns-in-Some-clause-unobserved : goal.returns-in-Some-clause-unobserved
+returns-in-Some-clause-unobserved c none =
+    absurd (true≢false (sym (c.is_idle.ensures.own ∙ ap (λ ns. length ns == 0) none) ∙ c.if-is_idle.false))
 
-pub returns-in_err-remove_node-clause-left : goal.returns-in_err-remove_node-clause-left
-returns-in_err-remove_node-clause-left c last root a h newer l =
-    let same = sym c.reserve_child.ensures in
-    same-left a h c.reserve_child.new.self c.remove_node.new.self
-    (c.remove_node.ensures.root (subst (λ (w : World). parent_of w.tree.forest c.args.node ≡ None) same root)) (subst (LeavesAll a) same l)
+pub returns-in-Some-clause-left : goal.returns-in-Some-clause-left
+returns-in-Some-clause-left c last root = let d : Some c.in-Some.seat.parent ≡ None = sym c.in-Some.ensures.parent ∙ root in absurd (cc d)
 
-pub returns-clause-left : goal.returns-clause-left
-returns-clause-left c last root a h newer l =
-    let same = sym c.reserve_child.ensures in
-    c.insert_all.ensures.left last a h newer
-    (same-left a h c.reserve_child.new.self c.remove_node.new.self
-    (c.remove_node.ensures.root (subst (λ (w : World). parent_of w.tree.forest c.args.node ≡ None) same root)) (subst (LeavesAll a) same l))
+pub returns-in-None-clause-inserted : goal.returns-in-None-clause-inserted
+returns-in-None-clause-inserted c = rw c.if-suppressed.false c.remove_and_insert-in-None.ensures.inserted
 
-pub returns-in_err-remove_node-clause-kept : goal.returns-in_err-remove_node-clause-kept
-returns-in_err-remove_node-clause-kept c = subst (λ (w : World). KeepsNodes w c.remove_node.new.self) c.reserve_child.ensures c.remove_node.ensures.kept
-
-pub returns-clause-kept : goal.returns-clause-kept
-returns-clause-kept c =
-    nodes-then c.args.self.now c.remove_node.new.self c.insert_all.new.self
-    (subst (λ (w : World). KeepsNodes w c.remove_node.new.self) c.reserve_child.ensures c.remove_node.ensures.kept) c.insert_all.ensures.kept
-
-pub returns-clause-whole : goal.returns-clause-whole
-returns-clause-whole c = search (tests, rules)
+pub returns-in-None-clause-err : goal.returns-in-None-clause-err
+returns-in-None-clause-err c = c.remove_and_insert-in-None.ensures.root c.in-None.ensures

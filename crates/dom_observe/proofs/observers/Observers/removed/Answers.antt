@@ -1,12 +1,12 @@
 -- Transient registrations are made, and then each observer that the mutation interests gets its record.
-use Rattle.dom_observe.proofs.{AreRegisteredLemmas.are-live, GetsTransientsLemmas.elsewhere-same, OneGoneLemmas.live-length, IsAwaitedLemmas.awaited-queued, NamedNodesLemmas.names-only, NamedNodesLemmas.names-same, NamedNodesLemmas.same-queues, NamedNodesLemmas.same-there, InterestedLemmas.all_last-there, InvariantLemmas.on-registered_nodes, ObserverKeysLemmas.indexed-by, ObserverKeysLemmas.indexed-same, ResultLemmas.at_err, QueueRecordLemmas.standing_on-none, QueueRecordLemmas.standing_stands, QueueRecordLemmas.kept-queued, QueueRecordLemmas.told-queued, QueueRecordLemmas.pended-queued, NoneInterestedLemmas.not_nothing, NoneInterestedLemmas.none-stand, NoneInterestedLemmas.none-standing, ReleaseLemmas.each-there, RemovedLemmas.listeners-alike, RemovedLemmas.stood, RemovedLemmas.standing-live, RemovedLemmas.standing-unnamed, RemovedLemmas.kept-left, RemovedLemmas.standing-left, RemovedLemmas.watches-none_above, RosterLemmas.has-same, RosterLemmas.length-same, TransientLemmas.transients-of_all, WatchesLemmas.watches-transients, GetsTransientsLemmas.same-watchers, NodeOrderLemmas.registered-alike, WatchesLemmas.watches-noted}
+use Rattle.dom_observe.proofs.{AreRegisteredLemmas.are-live, GetsTransientsLemmas.elsewhere-same, OneGoneLemmas.live-length, IsAwaitedLemmas.awaited-queued, NamedNodesLemmas.names-only, NamedNodesLemmas.names-same, NamedNodesLemmas.same-queues, NamedNodesLemmas.same-there, InterestedLemmas.all_last-there, InvariantLemmas.on-registered_nodes, ObserverKeysLemmas.indexed-by, ObserverKeysLemmas.indexed-same, ResultLemmas.at_err, QueueRecordLemmas.standing_on-none, QueueRecordLemmas.standing_stands, QueueRecordLemmas.kept-queued, QueueRecordLemmas.told-queued, QueueRecordLemmas.pended-queued, NoneInterestedLemmas.not_nothing, NoneInterestedLemmas.none-stand, NoneInterestedLemmas.none-standing, ReleaseLemmas.each-there, RemovedLemmas.listeners-alike, RemovedLemmas.stood, RemovedLemmas.standing-live, RemovedLemmas.standing-unnamed, RemovedLemmas.kept-left, RemovedLemmas.standing-left, RemovedLemmas.watches-none_above, IsRemovalQueuedLemmas.heard-apart, IsRemovalQueuedLemmas.heard-nobody, IsRemovalQueuedLemmas.removal-none, IsRemovalQueuedLemmas.removal-queued, UndoingLemmas.heard-listeners, RosterLemmas.has-same, RosterLemmas.length-same, TransientLemmas.transients-of_all, WatchesLemmas.watches-transients, GetsTransientsLemmas.same-watchers, NodeOrderLemmas.registered-alike, WatchesLemmas.watches-noted}
 use Rattle.std.proofs.Common.{◌≡◌, ℕ, ◌==◌, true, List, [], ◌∷◌, ◌++◌, length, take, drop, map, is_some, refl, ap, sym, ◌∙◌, subst, arith, flat_map, filter_map, option_to_list}
 use Rattle.std.proofs.lemmas.Bool.{true≢false, or_parts}
-use Rattle.std.specs.List.{AllByRecursion}
+use Rattle.std.specs.{List.AllByRecursion, Map.keys_of}
 use Rattle.std.proofs.Math.Seq.{take-append_seam, drop-append_seam}
 use Rattle.dom_model.specs.Definitions.{Registration, ancestors, Mutation, standing_on, registered_on, with_transients, observers_of, record_for, among, with_all_last}
 use Rattle.dom_model.proofs.PlainLists.Numbers.{same_or, same, apart}
-use Rattle.dom_observe.specs.{WithoutRepeats.once, Watchers.Watchers, Watchers.Watches, Watchers.records_at, Watchers.on, Registrations.at, Registrations.found, Registrations.AllStand, Invariant.registered_nodes, Invariant.has_queue, Invariant.HoldsInvariant, Invariant.IsIndexed, Invariant.IsAwaited, Roster.first_keys, Roster.second_keys, Roster.lasting_by, Roster.passing_by, Roster.queues_by, QueuedNodes.RecordsNameNone, ObservedNodes.nodes_of_mutation, Interested.listeners}
+use Rattle.dom_observe.specs.{WithoutRepeats.once, Watchers.Watchers, Watchers.Watches, Watchers.records_at, Watchers.on, Registrations.at, Registrations.found, Registrations.AllStand, Invariant.registered_nodes, Invariant.has_queue, Invariant.HoldsInvariant, Invariant.IsIndexed, Invariant.IsAwaited, Roster.first_keys, Roster.second_keys, Roster.lasting_by, Roster.passing_by, Roster.queues_by, QueuedNodes.RecordsNameNone, ObservedNodes.nodes_of_mutation, Interested.listeners, Interested.flag_of, Interested.delivered, Undoing.heard_at, Undoing.IsRemovalQueued}
 use Rattle.dom_observe.proofs.observers.Observers.removed.Goals as goal
 
 none : {A : Type 0} (xs : List A) → length xs ≡ 0 → xs ≡ []
@@ -368,3 +368,64 @@ returns-in-Err-clause-quiet g c unnamed =
     let none-there = none-stand a.registrations (has_queue (queues_by a.roster)) c.self.invariant.0.stand (queues_by a.roster) a.pending.keys c.args.self.now c.self.view_is (ancestors c.args.mutation.now.target c.args.tree.now.forest) unnamed in
     let nothing = c.in_ok-find_standing.ensures ∙ ap (λ k. flat_map (λ n. on n a.registrations.lists) (ancestors k c.args.tree.now.forest)) target ∙ none-there in
     absurd (not_nothing c.find_standing.new.keys.items c.find_standing.new.keys.len (sym c.find_standing.new.keys.ok.0) (sym c.is_empty.ensures ∙ c.if-is_empty.false) nothing)
+
+-- what is queued, in the observers' own words
+
+pub returns-then-is_idle-clause-own : goal.returns-then-is_idle-clause-own
+returns-then-is_idle-clause-own g c =
+    let m = c.args.mutation.now in
+    let ns = ancestors m.target c.args.tree.now.forest in
+    removal-none c.args.node ns m c.args.self.now (heard-nobody ns m c.args.self.now (sym c.is_idle.ensures.own ∙ c.if-is_idle.true))
+
+pub returns-then-is_empty-clause-own : goal.returns-then-is_empty-clause-own
+returns-then-is_empty-clause-own g c =
+    let a = c.self.inside in
+    let m = c.args.mutation.now in
+    let ns = ancestors m.target c.args.tree.now.forest in
+    let target = ap (λ (k : Mutation). k.target) c.mutation.view_is in
+    let full = c.find_standing.new.keys.ok.0 in
+    let t : (c.find_standing.new.keys.len == 0) ≡ true = sym c.is_empty.ensures ∙ c.if-is_empty.true in
+    let nothing : c.find_standing.new.keys.items ≡ [] =
+    none c.find_standing.new.keys.items (elim (same_or c.find_standing.new.keys.len 0) [ same e _ ↦ omega (arith, full, e) | apart _ f ↦ absurd (true≢false (sym t ∙ f)) ]) in
+    let keys = ap (λ k. flat_map (λ n. on n a.registrations.lists) (ancestors k c.args.tree.now.forest)) (sym target) ∙ sym c.in_ok-find_standing.ensures ∙ nothing in
+    let nobody = heard-listeners a.registrations (queues_by a.roster) a.pending.keys m ns ∙ ap (listeners (at a.registrations) m.type m.target m.name) keys in
+    let shown : Watchers = record { nodes = registered_nodes a.registrations; queues = queues_by a.roster; pending = a.pending.keys } in
+    subst (λ (o : Watchers). IsRemovalQueued c.args.node ns m o shown) c.self.view_is (removal-none c.args.node ns m shown nobody)
+
+pub returns-clause-own : goal.returns-clause-own
+returns-clause-own g c =
+    let told = c.in_default.ensures.told in
+    let pends = c.in_default.ensures.pending in
+    let a = c.self.inside in
+    let b = c.add_transients.new in
+    let d = c.queue_for_interested.new in
+    let m = c.args.mutation.now in
+    let node = c.args.node in
+    let ns = ancestors m.target c.args.tree.now.forest in
+    let u = at a.registrations in
+    let v = at b.registrations in
+    let lists = a.registrations.lists in
+    let qs = queues_by a.roster in
+    let qs' = queues_by b.roster in
+    let keys = c.as_slice.result.now in
+    let keys' = c.as_slice-2.result.now in
+    let same_keys : keys' ≡ keys = c.as_slice-2.ensures.value ∙ sym c.as_slice.ensures.value in
+    let got = c.in_ok-add_transients.ensures in
+    let target = ap (λ (k : Mutation). k.target) c.mutation.view_is in
+    let is : keys ≡ flat_map (λ n. on n lists) ns = c.as_slice.ensures.value ∙ c.in_ok-find_standing.ensures ∙ ap (λ t. flat_map (λ n. on n lists) (ancestors t c.args.tree.now.forest)) target in
+    let mid : Watchers = record { nodes = registered_nodes b.registrations; queues = qs'; pending = a.pending.keys } in
+    let new : Watchers = record { nodes = registered_nodes b.registrations; queues = queues_by d.roster; pending = d.pending.keys } in
+    let heard : listeners v m.type m.target m.name keys' ≡ heard_at ns m mid =
+    ap (listeners v m.type m.target m.name) same_keys
+    ∙ listeners-alike u v m.type m.target m.name keys got.stay
+    ∙ ap (listeners u m.type m.target m.name) is
+    ∙ sym (heard-listeners a.registrations qs a.pending.keys m ns)
+    ∙ sym (heard-apart node ns m a.registrations b.registrations qs qs' a.pending.keys keys c.requires.apart got.ok) in
+    subst (λ (o : Watchers). IsRemovalQueued node ns m o new) c.self.view_is
+    (removal-queued node ns m a.registrations b.registrations qs qs' a.pending.keys keys c.requires.apart got.ok got.added got.nodes c.add_transients.ensures.queues new (record {
+      nodes = refl;
+      made = length-same b.roster d.roster c.queue_for_interested.ensures.keys;
+      there = has-same b.roster d.roster c.queue_for_interested.ensures.keys;
+      records = λ p. told p ∙ ap (λ ls. records_at qs' p ++ delivered m (flag_of p ls)) heard;
+      pending = pends ∙ ap (λ ls. with_all_last a.pending.keys (keys_of ls)) heard;
+    }))

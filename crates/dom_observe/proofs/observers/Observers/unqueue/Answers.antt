@@ -66,3 +66,6 @@ returns-clause-made g c =
     let b = c.take_back_each.new in
     let new : Watchers = record { nodes = registered_nodes a.registrations; queues = queues_by b.roster; pending = c.shorten.new.pending.keys } in
     same-there c.args.self.now new (queues_by a.roster) (ap (λ (o : Watchers). o.queues) c.self.view_is) (length-same a.roster b.roster c.take_back_each.ensures.keys) (has-same a.roster b.roster c.take_back_each.ensures.keys)
+
+pub returns-clause-nodes : goal.returns-clause-nodes
+returns-clause-nodes g c = ap (λ (o : Watchers). o.nodes) c.self.view_is

@@ -1,11 +1,12 @@
-use Rattle.std.proofs.Common.{Option, ap, ℕ}
-use Rattle.dom_model.specs.Commands.Reply as model_reply
-use Rattle.dom_commands.specs.Brief.{reply_of}
-use Rattle.dom_session.specs.StepsInTurn.{found_node}
-use Rattle.dom_session.proofs.TraversalSteps.{step-next_node}
+use Rattle.std.proofs.Common.{◌∙◌, ap, sym, subst}
+use Rattle.dom_model.specs.Definitions.{NextNode}
+use Rattle.dom_commands.specs.{declared.brief.Brief.Brief, Brief.reply_of}
+use Rattle.dom_session.specs.{SessionViews.IsStep, StepsInTurn.found_node}
 use Rattle.dom_session.proofs.steps.NextNodesSteps.step.Goals as goal
 
 pub returns-clause-step : goal.returns-clause-step
 returns-clause-step c b =
-    step-next_node c.args.world.now c.requires.shown b c.args.self.iterator c.next-found.result c.next-found.new.self (reply_of (found_node c.number_of.result)) c.requires.held
-    (ap (λ (o : Option ℕ). model_reply.Done (model_reply.MaybeNumber o)) c.number_of.ensures) c.next-found.ensures.found c.next-found.ensures.moved
+    subst (λ (r : Brief). IsStep c.args.world.now c.next_node-reply.new.world b (NextNode c.args.self.iterator) (reply_of r)) (sym (ap found_node c.number_in.ensures ∙ c.next_node-reply.ensures.found c.requires.held)) (c.next_node-reply.ensures.step b)
+
+pub returns-clause-held : goal.returns-clause-held
+returns-clause-held c = c.next_node-reply.ensures.held c.requires.held
